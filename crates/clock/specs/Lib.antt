@@ -1,0 +1,4 @@
+pub mod Reading
+pub mod Time
+pub mod Base
+pub mod Apart

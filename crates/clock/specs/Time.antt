@@ -1,0 +1,66 @@
+-- Paper 01, "Two clocks": global times, their sum with a span, and their difference D. Assumes nothing.
+use Prim.Native.Nat.{ℕ, suc, _+_, _-_, _*_, _/_, _%_, _^_, _≤_, min}
+use mathlib.Core.Bool.{Bool, false, cond}
+use lib.Dec.{leb, ltb}
+use lib.IntN.{ℤ, pos, negsuc, subℕ}
+use Rattle.clock.specs.declared.time.GlobalTime.{GlobalTime}
+use Rattle.clock.specs.declared.time.TimeOrder.{TimeOrder}
+use Rattle.clock.specs.declared.time.TimeOrder.the-variants.{Earlier, Same, Later}
+
+-- ---- "Global time: seconds and nanoseconds, nanoseconds 0 to 999,999,999."
+abbrev pub isTime : GlobalTime → Bool
+isTime g = leb (g .1) 999999999
+
+-- all of a time in nanoseconds
+abbrev pub nanosecondsOf : GlobalTime → ℕ
+nanosecondsOf g = g .0 * 1000000000 + g .1
+
+-- ---- "A time that is set by the user has seconds 0 to 4,294,967,295 (32 bits). A received time is at
+-- most 4,294,967,298 seconds, and a read time at most 5,294,967,298 seconds plus the nanoseconds."
+pub record Within (seconds : ℕ) (g : GlobalTime) : Type 0 where
+  pub whole : g .0 ≤ seconds
+  pub part : g .1 ≤ 999999999
+
+abbrev pub IsSet : GlobalTime → Type 0
+IsSet = Within 4294967295
+
+abbrev pub IsReceived : GlobalTime → Type 0
+IsReceived = Within 4294967298
+
+abbrev pub IsRead : GlobalTime → Type 0
+IsRead = Within 5294967298
+
+-- ---- The carry of n nanoseconds into seconds of w bits, held at the last of the width.
+abbrev pub carried : (w s n : ℕ) → ℕ
+carried w s n = min (s + n / 1000000000) (2 ^ w - 1)
+
+-- ---- "that global time plus t minus that reading, exactly": the time a span later.
+abbrev pub advanced : GlobalTime → ℕ → GlobalTime
+advanced g span =
+    record {
+      0 = carried 64 (g .0) (g .1 + span);
+      1 = (g .1 + span) % 1000000000;
+    }
+
+-- ---- The order of two times.
+abbrev pub orderOf : GlobalTime → GlobalTime → TimeOrder
+orderOf a b =
+    cond (ltb (nanosecondsOf a) (nanosecondsOf b)) Earlier
+    (cond (ltb (nanosecondsOf b) (nanosecondsOf a)) Later Same)
+
+-- ---- "let D be the new time minus the old": in signed 64 bits, held at the nearer end.
+abbrev pub held : ℤ → ℤ
+held (pos m) = pos (min m (2 ^ 63 - 1))
+held (negsuc m) = negsuc (min m (2 ^ 63 - 1))
+
+abbrev pub differenceOf : GlobalTime → GlobalTime → ℤ
+differenceOf a b = held (subℕ (nanosecondsOf a) (nanosecondsOf b))
+
+-- ---- "D exceeds it", and "minus D exceeds it".
+abbrev pub exceeds : ℤ → ℕ → Bool
+exceeds (pos m) threshold = ltb threshold m
+exceeds (negsuc m) threshold = false
+
+abbrev pub minusExceeds : ℤ → ℕ → Bool
+minusExceeds (pos m) threshold = false
+minusExceeds (negsuc m) threshold = ltb threshold (suc m)

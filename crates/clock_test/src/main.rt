@@ -1,0 +1,175 @@
+// The edges of the two clocks, a line each: the limits, the carry, the order, D at both ends of 64
+// bits, and the thresholds. A time is written as seconds and nanoseconds, a reading as nanoseconds.
+use clock::GlobalTime;
+use clock::TimeBase;
+use clock::TimeOrder;
+use clock::VirtualLocalTime;
+use libc::STDOUT_FILENO;
+
+fn main() {
+    limits();
+    spans();
+    times();
+    differences();
+    thresholds();
+}
+
+fn word(text: &[u8]) {
+    io::write_all(STDOUT_FILENO, text);
+}
+
+fn number(n: u64) {
+    io::write_all(STDOUT_FILENO, b" ");
+    io::print_decimal(STDOUT_FILENO, n);
+}
+
+fn answer(yes: bool) {
+    if yes {
+        word(b" yes\n");
+    } else {
+        word(b" no\n");
+    }
+}
+
+fn limits() {
+    word(b"limits");
+    number(VirtualLocalTime::MAX.0);
+    number(GlobalTime::SECOND);
+    number(GlobalTime::NANOSECONDS_MAX as u64);
+    number(GlobalTime::SET_SECONDS_MAX);
+    number(GlobalTime::RECEIVED_SECONDS_MAX);
+    number(GlobalTime::READ_SECONDS_MAX);
+    word(b"\n");
+    reading(0);
+    reading(1_000_000_000_000_000_000);
+    reading(1_000_000_000_000_000_001);
+    reading(u64::MAX);
+    nanoseconds(0);
+    nanoseconds(999_999_999);
+    nanoseconds(1_000_000_000);
+    nanoseconds(u32::MAX);
+}
+
+fn reading(t: u64) {
+    word(b"reading");
+    number(t);
+    answer(VirtualLocalTime(t).is_reading());
+}
+
+fn nanoseconds(n: u32) {
+    word(b"nanoseconds");
+    number(n as u64);
+    answer(GlobalTime(0, n).is_time());
+}
+
+fn spans() {
+    span(0, 0);
+    span(7, 12);
+    span(12, 7);
+    span(0, u64::MAX);
+}
+
+fn span(from: u64, to: u64) {
+    word(b"span");
+    number(from);
+    number(to);
+    number(VirtualLocalTime(to).since(VirtualLocalTime(from)));
+    word(b"\n");
+}
+
+// Paper 01's own example: 3600 s 100 ns at 5 s, read at 6.01 s; then the carry and the ends.
+fn times() {
+    time(3600, 100, 5_000_000_000, 6_010_000_000);
+    time(100, 999_999_000, 7_000_000_000, 7_000_500_000);
+    time(0, 999_999_999, 0, 0);
+    time(0, 999_999_999, 0, 1);
+    time(7, 5, 100, 99);
+    time(4_294_967_298, 999_999_999, 0, 1_000_000_000_000_000_000);
+    time(0, u32::MAX, 0, u64::MAX);
+    time(u64::MAX, 0, 0, 999_999_999);
+    time(u64::MAX, 0, 0, 1_000_000_000);
+}
+
+fn time(s: u64, n: u32, at: u64, t: u64) {
+    let base = TimeBase::new(GlobalTime(s, n), VirtualLocalTime(at));
+    let now = base.time_at(VirtualLocalTime(t));
+    word(b"time");
+    number(s);
+    number(n as u64);
+    number(at);
+    number(t);
+    word(b" is");
+    number(now.0);
+    number(now.1 as u64);
+    word(b"\n");
+}
+
+fn differences() {
+    difference(0, 0, 0, 0);
+    difference(0, 1, 0, 0);
+    difference(0, 0, 0, 1);
+    difference(1, 0, 0, 999_999_999);
+    difference(0, 999_999_999, 1, 0);
+    difference(0, 1_000_000_000, 1, 0);
+    difference(5_294_967_298, 999_999_999, 0, 0);
+    difference(9_223_372_036, 854_775_806, 0, 0);
+    difference(9_223_372_036, 854_775_807, 0, 0);
+    difference(9_223_372_036, 854_775_808, 0, 0);
+    difference(0, 0, 9_223_372_036, 854_775_807);
+    difference(0, 0, 9_223_372_036, 854_775_808);
+    difference(0, 0, 9_223_372_036, 854_775_809);
+    difference(u64::MAX, u32::MAX, 0, 0);
+    difference(0, 0, u64::MAX, u32::MAX);
+}
+
+fn difference(s: u64, n: u32, r: u64, m: u32) {
+    let a = GlobalTime(s, n);
+    let b = GlobalTime(r, m);
+    word(b"difference");
+    number(s);
+    number(n as u64);
+    number(r);
+    number(m as u64);
+    match a.order(b) {
+        TimeOrder::Earlier => word(b" earlier"),
+        TimeOrder::Same => word(b" same"),
+        TimeOrder::Later => word(b" later"),
+    }
+    signed(a.minus(b));
+    word(b"\n");
+}
+
+fn signed(d: i64) {
+    if d < 0 {
+        word(b" -");
+    } else {
+        word(b" ");
+    }
+    io::print_decimal(STDOUT_FILENO, clock::magnitude(d));
+}
+
+fn thresholds() {
+    threshold(500, 499);
+    threshold(500, 500);
+    threshold(500, 501);
+    threshold(0, 0);
+    threshold(-500, 499);
+    threshold(-500, 500);
+    threshold(-1, 0);
+    threshold(9_223_372_036_854_775_807, 9_223_372_036_854_775_806);
+    threshold(-9_223_372_036_854_775_808, 9_223_372_036_854_775_807);
+    threshold(-9_223_372_036_854_775_808, 9_223_372_036_854_775_808);
+}
+
+fn threshold(d: i64, limit: u64) {
+    word(b"threshold");
+    signed(d);
+    number(limit);
+    word(b" future");
+    answer(clock::exceeds(d, limit));
+    word(b"threshold");
+    signed(d);
+    number(limit);
+    word(b" past");
+    answer(clock::minus_exceeds(d, limit));
+}

@@ -1,0 +1,113 @@
+// The parts of a line: words, numbers, bytes, and the values of a frame, which are those that its
+// kind carries.
+use frame::Frame;
+use frame::Fup;
+use frame::Protection;
+use frame::Sync;
+use libc::STDOUT_FILENO;
+
+pub fn word(text: &[u8]) {
+    io::write_all(STDOUT_FILENO, text);
+}
+
+pub fn number(n: u64) {
+    word(b" ");
+    io::print_decimal(STDOUT_FILENO, n);
+}
+
+pub fn bytes(list: &[u8]) {
+    if list.len() == 0 {
+        word(b" empty");
+    } else {
+        word(b" ");
+        hex(list);
+    }
+}
+
+// The bytes of a whole frame.
+pub fn frame_bytes(list: &[u8; 8]) {
+    bytes(list);
+}
+
+pub fn values(frame: Frame) {
+    match frame {
+        Frame::Sync(s) => sync(s),
+        Frame::Fup(f) => fup(f),
+    }
+}
+
+fn sync(s: Sync) {
+    let protection = s.protection;
+    word(b" sync");
+    kind(protection);
+    domain_and_counter(s.domain, s.counter);
+    word(b" user");
+    byte(s.user0);
+    user1(protection);
+    word(b" seconds");
+    number(s.seconds as u64);
+}
+
+fn fup(f: Fup) {
+    let protection = f.protection;
+    word(b" fup");
+    kind(protection);
+    domain_and_counter(f.domain, f.counter);
+    user2(protection);
+    flags(f.sgw, f.ovs);
+    word(b" nanoseconds");
+    number(f.nanoseconds as u64);
+}
+
+fn kind(protection: Protection) {
+    match protection {
+        Protection::Plain(_) => word(b" plain"),
+        Protection::Secured => word(b" secured"),
+    }
+}
+
+// The second user byte of a plain SYNC.
+fn user1(protection: Protection) {
+    if let Protection::Plain(user) = protection {
+        byte(user);
+    }
+}
+
+// The user byte of a plain FUP, the only one.
+fn user2(protection: Protection) {
+    if let Protection::Plain(user) = protection {
+        word(b" user");
+        byte(user);
+    }
+}
+
+fn domain_and_counter(domain: u8, counter: u8) {
+    number(domain as u64);
+    number(counter as u64);
+}
+
+fn flags(sgw: bool, ovs: u8) {
+    if sgw {
+        word(b" sgw 1 ovs");
+    } else {
+        word(b" sgw 0 ovs");
+    }
+    number(ovs as u64);
+}
+
+fn byte(value: u8) {
+    word(b" ");
+    digits(value);
+}
+
+fn hex(list: &[u8]) {
+    let mut i = 0;
+    while i < list.len() {
+        digits(list[i]);
+        i += 1;
+    }
+}
+
+fn digits(value: u8) {
+    io::print_hex(STDOUT_FILENO, value as u64, 2);
+}

@@ -1,0 +1,2 @@
+// What a promise is worth: the one word, `OnlyOne`, in which each crate says that no two results
+// satisfy a function's promise for the same input. There is no function here.
