@@ -1,0 +1,207 @@
+// The settings of one domain (paper 01, "Settings of a node"), for both roles.
+use frame::CheckMode;
+use frame::DataIds;
+ghost use mathlib.Core.Path.{_≡_};
+ghost use Rattle.settings.specs.Domain.{
+  isGood,
+  slaveGood,
+  masterGood,
+  absentHeld,
+  slaveHeld,
+  masterHeld,
+  heldOf,
+};
+
+// What a domain is in this node.
+pub enum Role {
+    Absent,
+    Slave,
+    Master,
+}
+
+// How a master sends.
+pub enum Security {
+    Plain,
+    Secured,
+}
+
+// User bytes 0, 1 and 2.
+pub struct UserBytes(pub u8, pub u8, pub u8);
+
+pub struct DomainSettings {
+    // A slave's: follow-up time F, loss time L, leap thresholds, in nanoseconds.
+    pub follow_up_time: u64,
+    pub loss_time: u64,
+    pub future_threshold: u64,
+    pub past_threshold: u64,
+    // A master's: sending period P and confirmation time C, in nanoseconds.
+    pub period: u64,
+    pub confirmation_time: u32,
+    // Each domain's DataIDs.
+    pub ids: DataIds,
+    pub role: Role,
+    // A slave's: check mode and counter jump width J.
+    pub mode: CheckMode,
+    pub jump_width: u8,
+    // A master's: plain or secured, and the user bytes it sends.
+    pub security: Security,
+    pub user: UserBytes,
+}
+
+impl DomainSettings {
+    pub const JUMP_WIDTH_MIN: u8 = 1;
+
+    pub const JUMP_WIDTH_MAX: u8 = 15;
+
+    pub const FOLLOW_UP_TIME_MIN: u64 = 1;
+
+    pub const FOLLOW_UP_TIME_MAX: u64 = 10_000_000_000;
+
+    pub const LOSS_TIME_MAX: u64 = 1_000_000_000_000;
+
+    pub const THRESHOLD_MAX: u64 = 1_000_000_000_000;
+
+    pub const PERIOD_MIN: u64 = 1_000_000;
+
+    pub const PERIOD_MAX: u64 = 1_000_000_000_000;
+
+    pub const CONFIRMATION_TIME_MIN: u64 = 1;
+
+    pub const CONFIRMATION_TIME_MAX: u64 = 3_000_000_000;
+
+    // Whether they are in range, as far as the role has them read.
+    pub fn is_good(self) -> bool
+        ensures { λ r. ⌜ r ≡ isGood self ⌝ }
+    {
+        let role = self.role;
+        match role {
+            Role::Absent => true,
+            Role::Slave => self.slave_good(),
+            Role::Master => self.master_good(),
+        }
+    }
+
+    fn slave_good(self) -> bool
+        ensures { λ r. ⌜ r ≡ slaveGood self ⌝ }
+    {
+        if self.jump_width < DomainSettings::JUMP_WIDTH_MIN {
+            return false;
+        }
+        if DomainSettings::JUMP_WIDTH_MAX < self.jump_width {
+            return false;
+        }
+        if self.follow_up_time < DomainSettings::FOLLOW_UP_TIME_MIN {
+            return false;
+        }
+        if DomainSettings::FOLLOW_UP_TIME_MAX < self.follow_up_time {
+            return false;
+        }
+        if self.loss_time <= self.follow_up_time {
+            return false;
+        }
+        if DomainSettings::LOSS_TIME_MAX < self.loss_time {
+            return false;
+        }
+        if DomainSettings::THRESHOLD_MAX < self.future_threshold {
+            return false;
+        }
+        self.past_threshold <= DomainSettings::THRESHOLD_MAX
+    }
+
+    fn master_good(self) -> bool
+        ensures { λ r. ⌜ r ≡ masterGood self ⌝ }
+    {
+        let confirmation_time = self.confirmation_time as u64;
+        if self.period < DomainSettings::PERIOD_MIN {
+            return false;
+        }
+        if DomainSettings::PERIOD_MAX < self.period {
+            return false;
+        }
+        if confirmation_time < DomainSettings::CONFIRMATION_TIME_MIN {
+            return false;
+        }
+        if DomainSettings::CONFIRMATION_TIME_MAX < confirmation_time {
+            return false;
+        }
+        confirmation_time < self.period
+    }
+
+    // What is held of them: 0 for all that the role does not have read.
+    pub fn held(self) -> DomainSettings
+        ensures { λ r. ⌜ r ≡ heldOf self ⌝ }
+    {
+        let role = self.role;
+        match role {
+            Role::Absent => DomainSettings::absent(),
+            Role::Slave => self.slave_held(),
+            Role::Master => self.master_held(),
+        }
+    }
+
+    // The settings of an absent domain: all 0.
+    pub fn absent() -> DomainSettings
+        ensures { λ r. ⌜ r ≡ absentHeld ⌝ }
+    {
+        DomainSettings {
+            follow_up_time: 0,
+            loss_time: 0,
+            future_threshold: 0,
+            past_threshold: 0,
+            period: 0,
+            confirmation_time: 0,
+            ids: DataIds {
+                sync: [0; 16],
+                fup: [0; 16],
+            },
+            role: Role::Absent,
+            mode: CheckMode::Validated,
+            jump_width: 0,
+            security: Security::Plain,
+            user: UserBytes(0, 0, 0),
+        }
+    }
+
+    fn slave_held(self) -> DomainSettings
+        ensures { λ r. ⌜ r ≡ slaveHeld self ⌝ }
+    {
+        let ids = self.ids;
+        let mode = self.mode;
+        DomainSettings {
+            follow_up_time: self.follow_up_time,
+            loss_time: self.loss_time,
+            future_threshold: self.future_threshold,
+            past_threshold: self.past_threshold,
+            period: 0,
+            confirmation_time: 0,
+            ids,
+            role: Role::Slave,
+            mode,
+            jump_width: self.jump_width,
+            security: Security::Plain,
+            user: UserBytes(0, 0, 0),
+        }
+    }
+
+    fn master_held(self) -> DomainSettings
+        ensures { λ r. ⌜ r ≡ masterHeld self ⌝ }
+    {
+        let ids = self.ids;
+        let security = self.security;
+        let user = self.user;
+        DomainSettings {
+            follow_up_time: 0,
+            loss_time: 0,
+            future_threshold: 0,
+            past_threshold: 0,
+            period: self.period,
+            confirmation_time: self.confirmation_time,
+            ids,
+            role: Role::Master,
+            mode: CheckMode::Validated,
+            jump_width: 0,
+            security,
+            user,
+        }
+    }
+}

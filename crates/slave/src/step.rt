@@ -1,0 +1,49 @@
+// A frame on a slave's record (paper 01, "A slave's domain"): the check mode, then SYNC or FUP.
+use crate::fup::take_fup;
+use crate::sync::take_sync;
+use clock::VirtualLocalTime;
+use domain::Domain;
+use frame::Frame;
+use refusal::Refusal;
+ghost use mathlib.Core.Path.{_≡_};
+ghost use Rattle.slave.specs.Step.{frameOf};
+ghost use Rattle.slave.specs.Answer.{refusedOf};
+
+// What a slave answers to a frame. D is that of the update.
+pub enum FrameAnswer {
+    SyncTaken,
+    FirstTaken,
+    Updated(i64),
+    Refused(Refusal),
+}
+
+pub struct FrameStep {
+    pub answer: FrameAnswer,
+    pub domain: Domain,
+}
+
+// A frame of the domain, by its bytes and the values read from them. 5, then 6, or 7, 8 and 9.
+pub fn take_frame(domain: Domain, t: VirtualLocalTime, bytes: &[u8], values: Frame) -> FrameStep
+    ensures { λ r. ⌜ r ≡ frameOf domain t (now (bytes .entry)) values ⌝ }
+{
+    let settings = domain.settings;
+    let mode = settings.mode;
+    let ids = settings.ids;
+    if !mode.takes(bytes, ids) {
+        return refused(domain, Refusal::Check);
+    }
+    match values {
+        Frame::Sync(sync) => take_sync(domain, t, sync),
+        Frame::Fup(fup) => take_fup(domain, t, fup),
+    }
+}
+
+// A refusal: the record stays.
+pub fn refused(domain: Domain, refusal: Refusal) -> FrameStep
+    ensures { λ r. ⌜ r ≡ refusedOf domain refusal ⌝ }
+{
+    FrameStep {
+        answer: FrameAnswer::Refused(refusal),
+        domain,
+    }
+}
