@@ -1,0 +1,60 @@
+// A time that is set on a master's record (paper 01, "A master's domain").
+use clock::GlobalTime;
+use clock::Held;
+use clock::TimeBase;
+use clock::VirtualLocalTime;
+use domain::Domain;
+use domain::next_update;
+use refusal::Refusal;
+ghost use mathlib.Core.Path.{_≡_};
+ghost use Rattle.master.specs.Set.{withTime, setOf};
+
+pub enum SetAnswer {
+    Done,
+    Refused(Refusal),
+}
+
+pub struct SetStep {
+    pub answer: SetAnswer,
+    pub domain: Domain,
+}
+
+// The base holds the given time at t, or 9. An open SYNC is not touched.
+pub fn set_time(domain: Domain, t: VirtualLocalTime, seconds: u32, nanoseconds: u32) -> SetStep
+    ensures { λ r. ⌜ r ≡ setOf domain t seconds nanoseconds ⌝ }
+{
+    if GlobalTime::NANOSECONDS_MAX < nanoseconds {
+        return SetStep {
+            answer: SetAnswer::Refused(Refusal::Nanoseconds),
+            domain,
+        };
+    }
+    SetStep {
+        answer: SetAnswer::Done,
+        domain: with_time(domain, GlobalTime(seconds as u64, nanoseconds), t),
+    }
+}
+
+fn with_time(domain: Domain, time: GlobalTime, t: VirtualLocalTime) -> Domain
+    ensures { λ r. ⌜ r ≡ withTime domain time t ⌝ }
+{
+    let settings = domain.settings;
+    let pairing = domain.pairing;
+    let last = domain.last;
+    let sending = domain.sending;
+    let user = domain.user;
+    let leap = domain.leap;
+    Domain {
+        settings,
+        base: Held::Set(TimeBase::new(time, t)),
+        pairing,
+        last,
+        sending,
+        number: domain.number,
+        user,
+        sgw: domain.sgw,
+        leap,
+        updates: next_update(domain.updates),
+        next_counter: domain.next_counter,
+    }
+}
