@@ -1,6 +1,6 @@
 -- Paper 01, "A master's domain": confirmation. Assumes nothing.
 use Prim.Native.Nat.{ℕ, _-_}
-use mathlib.Core.Bool.{false, cond, _&&_}
+use mathlib.Core.Bool.{Bool, false, cond, _&&_}
 use lib.Dec.{leb, eqb}
 use Rattle.clock.specs.declared.reading.VirtualLocalTime.{VirtualLocalTime}
 use Rattle.clock.specs.declared.time.GlobalTime.{GlobalTime}
@@ -67,11 +67,17 @@ followedOf d t counter g at =
     }
 
 -- ---- "the open SYNC must have that counter and be at most C old": 11; 13 "OVS above 3"
+abbrev pub isOpenFor : (c sent : ℕ) → VirtualLocalTime → ℕ → VirtualLocalTime → Bool
+isOpenFor c sent at counter t = eqb sent counter && leb (spanOf at t) c
+
+abbrev pub isOvs : GlobalTime → VirtualLocalTime → VirtualLocalTime → Bool
+isOvs g at t = leb (wholeOf g at t .0 - g .0) 3
+
 abbrev pub openOf :
     Domain → VirtualLocalTime → (counter sent : ℕ) → GlobalTime → VirtualLocalTime → ConfirmStep
 openOf d t counter sent g at =
-    cond (eqb sent counter && leb (spanOf at t) (d .settings .«confirmation_time»))
-    (cond (leb (wholeOf g at t .0 - g .0) 3) (followedOf d t counter g at) (refusedOf d Ovs))
+    cond (isOpenFor (d .settings .«confirmation_time») sent at counter t)
+    (cond (isOvs g at t) (followedOf d t counter g at) (refusedOf d Ovs))
     (refusedOf d NoOpenSync)
 
 abbrev pub confirmWith : Sending → Domain → VirtualLocalTime → ℕ → ConfirmStep

@@ -1,6 +1,6 @@
 -- Paper 01, "A slave's domain": FUP. Assumes nothing.
 use Prim.Native.Nat.{ℕ, _+_}
-use mathlib.Core.Bool.{cond}
+use mathlib.Core.Bool.{Bool, cond}
 use lib.Dec.{ltb, leb, eqb}
 use Rattle.clock.specs.declared.reading.VirtualLocalTime.{VirtualLocalTime}
 use Rattle.clock.specs.declared.base.TimeBase.{TimeBase}
@@ -68,11 +68,20 @@ takenOf d p f = takenBy (changeOf (d .base) (newBase p f)) d p f
 
 -- ---- "a pair must be open", and not older than F; "the counter must be the pair's, the nanoseconds
 -- must be in range": 7, 8, 9
+abbrev pub isOld : (f : ℕ) → Pair → VirtualLocalTime → Bool
+isOld f p t = ltb f (spanOf (p .at) t)
+
+abbrev pub isOfPair : Pair → Fup → Bool
+isOfPair p f = eqb (f .counter) (p .counter)
+
+abbrev pub inRange : Fup → Bool
+inRange f = leb (f .nanoseconds) 999999999
+
 abbrev pub joinedOf : Domain → Pair → VirtualLocalTime → Fup → FrameStep
 joinedOf d p t f =
-    cond (ltb (d .settings .«follow_up_time») (spanOf (p .at) t)) (refusedOf d NoOpenPair)
-    (cond (eqb (f .counter) (p .counter))
-    (cond (leb (f .nanoseconds) 999999999) (takenOf d p f) (refusedOf d Nanoseconds))
+    cond (isOld (d .settings .«follow_up_time») p t) (refusedOf d NoOpenPair)
+    (cond (isOfPair p f)
+    (cond (inRange f) (takenOf d p f) (refusedOf d Nanoseconds))
     (refusedOf d FupCounter))
 
 abbrev pub fupWith : Pairing → Domain → VirtualLocalTime → Fup → FrameStep

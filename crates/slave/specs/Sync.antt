@@ -1,5 +1,4 @@
 -- Paper 01, "A slave's domain": SYNC at t. Assumes nothing.
-use Prim.Native.Nat.{ℕ}
 use mathlib.Core.Bool.{Bool, cond}
 use Rattle.clock.specs.declared.reading.VirtualLocalTime.{VirtualLocalTime}
 use Rattle.frame.specs.declared.values.Sync.{Sync}

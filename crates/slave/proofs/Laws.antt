@@ -1,0 +1,119 @@
+-- Laws of a slave's steps. No contract cites this file.
+--   step-exact             on counters of a frame, the step is (new + 16 - last) modulo 16
+--   refusal-keeps-sync     a refused SYNC leaves the record as it was
+--   refusal-keeps-fup      so does a refused FUP
+--   refusal-keeps-frame    and a refused frame
+--   sync-keeps-base        a SYNC does not move the base, taken or refused
+--   fup-closes             a FUP that is not refused leaves no pair open
+--   leap-exclusive         no D is a leap into the future and into the past
+--   received-bound         a base from a pair and a FUP is at most what the paper allows
+-- Assumes nothing.
+use Prim.Native.Nat.{ℕ, _+_, _-_, _%_, _≤_, _<_}
+use mathlib.Core.Path.{_≡_, refl}
+use mathlib.Core.Bool.{Bool, true, false, not, _&&_}
+use mathlib.Core.List.{List}
+use native.Mathlib.Nat.{mod-eq-of-lt}
+use native.Mathlib.Omega.{arith}
+use lib.Dec.{eqb}
+use lib.IntN.{ℤ, pos, negsuc}
+use Rattle.promise.proofs.Laws.{either}
+use Rattle.clock.specs.declared.reading.VirtualLocalTime.{VirtualLocalTime}
+use Rattle.clock.specs.Time.{IsReceived}
+use Rattle.frame.specs.declared.values.Sync.{Sync}
+use Rattle.frame.specs.declared.values.Fup.{Fup}
+use Rattle.frame.specs.declared.values.Frame.{Frame}
+use Rattle.frame.specs.declared.values.Frame.the-variants.{Sync as sync, Fup as fup}
+use Rattle.frame.specs.Check.{isGood}
+use Rattle.refusal.specs.declared.Refusal.{Refusal}
+use Rattle.domain.specs.declared.Domain.{Domain}
+use Rattle.domain.specs.declared.Pair.{Pair}
+use Rattle.domain.specs.declared.Pairing.{Pairing}
+use Rattle.domain.specs.declared.Pairing.the-variants.{Waiting, Open}
+use Rattle.slave.specs.declared.fup.Change.{Change}
+use Rattle.slave.specs.declared.fup.Change.the-variants.{First, By}
+use Rattle.slave.specs.declared.step.FrameAnswer.the-variants.{Refused}
+use Rattle.slave.specs.declared.step.FrameStep.{FrameStep}
+use Rattle.slave.specs.Answer.{frameNumber}
+use Rattle.slave.specs.Counter.{stepOf}
+use Rattle.slave.specs.Sync.{takesSync, syncOf}
+use Rattle.slave.specs.Leap.{isFuture, isPast}
+use Rattle.slave.specs.Fup.{newBase, changeOf, takenBy, isOld, isOfPair, inRange, joinedOf, fupWith, fupOf}
+use Rattle.slave.specs.Step.{kindOf, frameOf}
+
+pub step-exact : (last new : ℕ) → last < 16 → new < 16 → stepOf last new ≡ (new + 16 - last) % 16
+step-exact last new p q = rw (mod-eq-of-lt q, mod-eq-of-lt p)
+
+-- ---- a refusal keeps the record
+
+abbrev Keeps : Domain → FrameStep → Type 0
+Keeps d r = (refusal : Refusal) → r .answer ≡ Refused refusal → r .domain ≡ d
+
+pub refusal-keeps-sync : (d : Domain) (t : VirtualLocalTime) (s : Sync) → Keeps d (syncOf d t s)
+refusal-keeps-sync d t s = either (Keeps d) (takesSync d t s) (λ r e. cc) (λ r e. refl)
+
+taken-keeps : (c : Change) (d : Domain) (p : Pair) (f : Fup) → Keeps d (takenBy c d p f)
+taken-keeps First d p f = λ r e. cc
+taken-keeps (By δ) d p f = λ r e. cc
+
+joined-keeps : (d : Domain) (p : Pair) (t : VirtualLocalTime) (f : Fup) → Keeps d (joinedOf d p t f)
+joined-keeps d p t f =
+    either (Keeps d) (isOld (d .settings .«follow_up_time») p t) (λ r e. refl)
+    (either (Keeps d) (isOfPair p f)
+    (either (Keeps d) (inRange f) (taken-keeps (changeOf (d .base) (newBase p f)) d p f) (λ r e. refl))
+    (λ r e. refl))
+
+fup-keeps : (p : Pairing) (d : Domain) (t : VirtualLocalTime) (f : Fup) → Keeps d (fupWith p d t f)
+fup-keeps Waiting d t f = λ r e. refl
+fup-keeps (Open p) d t f = joined-keeps d p t f
+
+pub refusal-keeps-fup : (d : Domain) (t : VirtualLocalTime) (f : Fup) → Keeps d (fupOf d t f)
+refusal-keeps-fup d t f = fup-keeps (d .pairing) d t f
+
+kind-keeps : (v : Frame) (d : Domain) (t : VirtualLocalTime) → Keeps d (kindOf d t v)
+kind-keeps (sync s) d t = refusal-keeps-sync d t s
+kind-keeps (fup f) d t = refusal-keeps-fup d t f
+
+pub refusal-keeps-frame :
+    (d : Domain) (t : VirtualLocalTime) (bytes : List ℕ) (values : Frame) → Keeps d (frameOf d t bytes values)
+refusal-keeps-frame d t bytes values =
+    either (Keeps d) (isGood (d .settings .mode) (d .settings .ids) bytes) (kind-keeps values d t) (λ r e. refl)
+
+-- ---- what a SYNC and a FUP do
+
+pub sync-keeps-base : (d : Domain) (t : VirtualLocalTime) (s : Sync) → syncOf d t s .domain .base ≡ d .base
+sync-keeps-base d t s = either (λ (r : FrameStep). r .domain .base ≡ d .base) (takesSync d t s) refl refl
+
+abbrev Closes : FrameStep → Type 0
+Closes r = frameNumber (r .answer) ≡ 0 → r .domain .pairing ≡ Waiting
+
+taken-closes : (c : Change) (d : Domain) (p : Pair) (f : Fup) → Closes (takenBy c d p f)
+taken-closes First d p f = λ e. refl
+taken-closes (By δ) d p f = λ e. refl
+
+closes : (p : Pairing) (d : Domain) (t : VirtualLocalTime) (f : Fup) → Closes (fupWith p d t f)
+closes Waiting d t f = λ e. absurd (omega arith)
+closes (Open p) d t f =
+    either Closes (isOld (d .settings .«follow_up_time») p t) (λ e. absurd (omega arith))
+    (either Closes (isOfPair p f)
+    (either Closes (inRange f) (taken-closes (changeOf (d .base) (newBase p f)) d p f) (λ e. absurd (omega arith)))
+    (λ e. absurd (omega arith)))
+
+pub fup-closes : (d : Domain) (t : VirtualLocalTime) (f : Fup) → Closes (fupOf d t f)
+fup-closes d t f = closes (d .pairing) d t f
+
+pub received-bound :
+    (p : Pair) (f : Fup) → p .seconds ≤ 4294967295 → f .ovs ≤ 3 → f .nanoseconds ≤ 999999999 →
+    IsReceived (newBase p f .time)
+received-bound p f hs ho hn = omega arith
+
+-- ---- leaps
+
+and-false : (b : Bool) → (b && false) ≡ false
+and-false true = refl
+and-false false = refl
+
+pub leap-exclusive : (future past : ℕ) (d : ℤ) → isFuture future d ≡ true → isPast past d ≡ false
+leap-exclusive future past (pos m) e = and-false (not (eqb past 0))
+leap-exclusive future past (negsuc m) e =
+    let no = and-false (not (eqb future 0)) in
+    cc
