@@ -9,7 +9,7 @@
 --   whole-exact             the whole time is the SYNC's time and the reading's advance, to the nanosecond
 --   ovs-bound               OVS is at most 3 where C is in range and the SYNC's time is good
 -- Assumes nothing.
-use Prim.Native.Nat.{ℕ, _+_, _-_, _%_, _≤_, _<_}
+use Prim.Native.Nat.{ℕ, _+_, _%_, _≤_, _<_}
 use mathlib.Core.Path.{_≡_, refl}
 use mathlib.Core.Bool.{Bool, true, false, _&&_}
 use native.Mathlib.Nat.{mod-eq-of-lt}
@@ -19,25 +19,27 @@ use borrow.Author.Tests.{leb-true}
 use Rattle.promise.proofs.Laws.{either}
 use Rattle.clock.specs.declared.reading.VirtualLocalTime.{VirtualLocalTime}
 use Rattle.clock.specs.declared.time.GlobalTime.{GlobalTime}
-use Rattle.clock.specs.declared.base.Held.{Held}
-use Rattle.clock.specs.declared.base.Held.the-variants.{Unset, Set}
 use Rattle.clock.specs.Reading.{spanOf}
 use Rattle.clock.specs.Time.{nanosecondsOf, IsSet}
-use Rattle.clock.specs.Base.{timeAt}
 use Rattle.clock.proofs.Laws.{advance-exact}
 use Rattle.refusal.specs.declared.Refusal.{Refusal}
+use Rattle.settings.specs.declared.domain_settings.Role.{Role}
 use Rattle.domain.specs.declared.Domain.{Domain}
 use Rattle.domain.specs.declared.Sending.{Sending}
 use Rattle.domain.specs.declared.Sending.the-variants.{Never, Open, Confirmed}
 use Rattle.master.specs.declared.setting.SetAnswer.the-variants.{Refused as set-refused}
 use Rattle.master.specs.declared.setting.SetStep.{SetStep}
+use Rattle.master.specs.declared.sending.Due.{Due}
+use Rattle.master.specs.declared.sending.Due.the-variants.{At, No}
 use Rattle.master.specs.declared.sending.SendAnswer.the-variants.{NotDue}
 use Rattle.master.specs.declared.sending.SendStep.{SendStep}
+use Rattle.master.specs.declared.confirming.Follow.{Follow}
+use Rattle.master.specs.declared.confirming.Follow.the-variants.{With, Refused as refused}
 use Rattle.master.specs.declared.confirming.ConfirmAnswer.the-variants.{Refused}
 use Rattle.master.specs.declared.confirming.ConfirmStep.{ConfirmStep}
 use Rattle.master.specs.Set.{setOf}
-use Rattle.master.specs.Send.{dueWith, sendFrom, sendOf}
-use Rattle.master.specs.Confirm.{confirmNumber, wholeOf, isOpenFor, isOvs, confirmWith, confirmOf}
+use Rattle.master.specs.Send.{dueWith, dueIn, sendAs, sendOf}
+use Rattle.master.specs.Confirm.{confirmNumber, isOpenFor, wholeOf, ovsOf, followOf, confirmAs, confirmOf}
 
 -- ---- a refusal keeps the record
 
@@ -51,27 +53,23 @@ refusal-keeps-set d t s n =
 abbrev Rests : Domain → SendStep → Type 0
 Rests d r = r .answer ≡ NotDue → r .domain ≡ d
 
-from-rests : (b : Held) (d : Domain) (t : VirtualLocalTime) → Rests d (sendFrom b d t)
-from-rests Unset d t = λ e. refl
-from-rests (Set b) d t = either (Rests d) (dueWith d (timeAt b t) t) (λ e. cc) (λ e. refl)
+as-rests : (due : Due) (d : Domain) (t : VirtualLocalTime) → Rests d (sendAs due d t)
+as-rests (At seconds nanoseconds) d t = λ e. cc
+as-rests No d t = λ e. refl
 
 pub rest-keeps : (d : Domain) (t : VirtualLocalTime) → Rests d (sendOf d t)
-rest-keeps d t = from-rests (d .base) d t
+rest-keeps d t = as-rests (dueIn d t) d t
 
 abbrev Keeps : Domain → ConfirmStep → Type 0
 Keeps d r = (refusal : Refusal) → r .answer ≡ Refused refusal → r .domain ≡ d
 
-confirm-keeps :
-    (s : Sending) (d : Domain) (t : VirtualLocalTime) (counter : ℕ) → Keeps d (confirmWith s d t counter)
-confirm-keeps Never d t counter = λ r e. refl
-confirm-keeps (Open sent seconds nanoseconds at) d t counter =
-    either (Keeps d) (isOpenFor (d .settings .«confirmation_time») sent at counter t)
-    (either (Keeps d) (isOvs (record { 0 = seconds; 1 = nanoseconds }) at t) (λ r e. cc) (λ r e. refl))
-    (λ r e. refl)
-confirm-keeps (Confirmed at) d t counter = λ r e. refl
+as-keeps : (f : Follow) (d : Domain) (counter : ℕ) → Keeps d (confirmAs f d counter)
+as-keeps (With ovs nanoseconds at) d counter = λ r e. cc
+as-keeps (refused refusal) d counter = λ r e. refl
 
 pub refusal-keeps-confirm : (d : Domain) (t : VirtualLocalTime) (counter : ℕ) → Keeps d (confirmOf d t counter)
-refusal-keeps-confirm d t counter = confirm-keeps (d .sending) d t counter
+refusal-keeps-confirm d t counter =
+    as-keeps (followOf (d .settings .«confirmation_time») (d .sending) t counter) d counter
 
 -- ---- what set and confirm do
 
@@ -80,24 +78,29 @@ pub set-keeps-sending :
 set-keeps-sending d t s n =
     either (λ (r : SetStep). r .domain .sending ≡ d .sending) (leb n 999999999) refl refl
 
-abbrev Open-none : Sending → Type 0
-Open-none Never = Unit {0}
-Open-none (Open sent seconds nanoseconds at) = ⊥
-Open-none (Confirmed at) = Unit {0}
+abbrev NotOpen : Sending → Type 0
+NotOpen Never = Unit {0}
+NotOpen (Open sent seconds nanoseconds at) = ⊥
+NotOpen (Confirmed at) = Unit {0}
 
-abbrev Closes : ConfirmStep → Type 0
-Closes r = confirmNumber (r .answer) ≡ 0 → Open-none (r .domain .sending)
+pub confirm-closes :
+    (d : Domain) (t : VirtualLocalTime) (counter : ℕ) → confirmNumber (confirmOf d t counter .answer) ≡ 0 →
+    NotOpen (confirmOf d t counter .domain .sending)
+confirm-closes d t counter = by-sending (d .sending)
+  where
+    Closed : Follow → Type 0
+    Closed f = confirmNumber (confirmAs f d counter .answer) ≡ 0 → NotOpen (confirmAs f d counter .domain .sending)
 
-closes : (s : Sending) (d : Domain) (t : VirtualLocalTime) (counter : ℕ) → Closes (confirmWith s d t counter)
-closes Never d t counter = λ e. absurd (omega arith)
-closes (Open sent seconds nanoseconds at) d t counter =
-    either Closes (isOpenFor (d .settings .«confirmation_time») sent at counter t)
-    (either Closes (isOvs (record { 0 = seconds; 1 = nanoseconds }) at t) (λ e. tt) (λ e. absurd (omega arith)))
-    (λ e. absurd (omega arith))
-closes (Confirmed at) d t counter = λ e. absurd (omega arith)
+    c : ℕ
+    c = d .settings .«confirmation_time»
 
-pub confirm-closes : (d : Domain) (t : VirtualLocalTime) (counter : ℕ) → Closes (confirmOf d t counter)
-confirm-closes d t counter = closes (d .sending) d t counter
+    by-sending : (s : Sending) → Closed (followOf c s t counter)
+    by-sending Never = λ e. absurd (omega arith)
+    by-sending (Open sent seconds nanoseconds at) =
+        either Closed (isOpenFor c sent at t counter)
+        (either Closed (leb (ovsOf (record { 0 = seconds; 1 = nanoseconds }) at t) 3) (λ e. tt) (λ e. absurd (omega arith)))
+        (λ e. absurd (omega arith))
+    by-sending (Confirmed at) = λ e. absurd (omega arith)
 
 -- ---- bounds
 
@@ -105,8 +108,10 @@ first : (a b c : Bool) → (a && b && c) ≡ true → a ≡ true
 first true b c e = refl
 first false b c e = e
 
-pub due-fits : (d : Domain) (g : GlobalTime) (t : VirtualLocalTime) → dueWith d g t ≡ true → g .0 ≤ 4294967295
-due-fits d g t e = leb-true _ _ (first _ _ _ e)
+pub due-fits :
+    (role : Role) (p : ℕ) (g : GlobalTime) (s : Sending) (t : VirtualLocalTime) →
+    dueWith role p g s t ≡ true → g .0 ≤ 4294967295
+due-fits role p g s t e = leb-true _ _ (first _ _ _ e)
 
 pub counter-exact : (counter : ℕ) → counter < 16 → (counter % 16 + 1) % 16 ≡ (counter + 1) % 16
 counter-exact counter h = rw (mod-eq-of-lt h)
@@ -115,5 +120,5 @@ module _ (g : GlobalTime) (at t : VirtualLocalTime) (good : IsSet g) (fresh : sp
   pub whole-exact : nanosecondsOf (wholeOf g at t) ≡ nanosecondsOf g + spanOf at t
   whole-exact = advance-exact g (spanOf at t) (omega arith)
 
-  pub ovs-bound : wholeOf g at t .0 - g .0 ≤ 3
+  pub ovs-bound : ovsOf g at t ≤ 3
   ovs-bound = omega arith

@@ -17,6 +17,8 @@ use Rattle.settings.specs.declared.domain_settings.Security.the-variants.{Plain
 use Rattle.domain.specs.declared.Domain.{Domain}
 use Rattle.domain.specs.declared.Sending.{Sending}
 use Rattle.domain.specs.declared.Sending.the-variants.{Never, Open, Confirmed}
+use Rattle.master.specs.declared.sending.Due.{Due}
+use Rattle.master.specs.declared.sending.Due.the-variants.{At, No}
 use Rattle.master.specs.declared.sending.SendAnswer.the-variants.{Sent, NotDue}
 use Rattle.master.specs.declared.sending.SendStep.{SendStep}
 
@@ -33,16 +35,23 @@ hasWaited p (Confirmed at) t = leb p (spanOf at t)
 
 -- ---- "a domain is due if its base is set, its seconds at t are at most 4,294,967,295, and it has never
 -- sent or at least P has passed since it last sent"; g is the base's time at t
-abbrev pub dueWith : Domain → GlobalTime → VirtualLocalTime → Bool
-dueWith d g t =
-    leb (g .0) 4294967295 && isMaster (d .settings .role) && hasWaited (d .settings .period) (d .sending) t
+abbrev pub dueWith : Role → (p : ℕ) → GlobalTime → Sending → VirtualLocalTime → Bool
+dueWith role p g sending t = leb (g .0) 4294967295 && isMaster role && hasWaited p sending t
 
-abbrev pub dueFrom : Held → Domain → VirtualLocalTime → Bool
-dueFrom Unset d t = false
-dueFrom (Set b) d t = dueWith d (timeAt b t) t
+abbrev pub dueOf : Role → (p : ℕ) → Held → Sending → VirtualLocalTime → Due
+dueOf role p Unset sending t = No
+dueOf role p (Set b) sending t =
+    cond (dueWith role p (timeAt b t) sending t) (At (timeAt b t .0) (timeAt b t .1)) No
+
+abbrev pub isAt : Due → Bool
+isAt (At seconds nanoseconds) = true
+isAt No = false
+
+abbrev pub dueIn : Domain → VirtualLocalTime → Due
+dueIn d t = dueOf (d .settings .role) (d .settings .period) (d .base) (d .sending) t
 
 abbrev pub isDue : Domain → VirtualLocalTime → Bool
-isDue d t = dueFrom (d .base) d t
+isDue d t = isAt (dueIn d t)
 
 -- ---- "per master plain or secured, the user bytes a master sends"
 abbrev pub protectionOf : Security → ℕ → Protection
@@ -51,8 +60,8 @@ protectionOf Secured user = secured
 
 -- ---- "Each frame carries the seconds at t and the next counter, 0 first, 15 then 0. The domain holds
 -- this SYNC's time, counter and reading as open, in place of an older one."
-abbrev pub sentAt : Domain → GlobalTime → VirtualLocalTime → SendStep
-sentAt d g t =
+abbrev pub sentOf : Domain → (seconds nanoseconds : ℕ) → VirtualLocalTime → SendStep
+sentOf d seconds nanoseconds t =
     record {
       answer =
           Sent
@@ -60,7 +69,7 @@ sentAt d g t =
             domain = d .number;
             counter = d .«next_counter» % 16;
             user0 = d .settings .user .0;
-            seconds = g .0;
+            seconds = seconds;
             protection = protectionOf (d .settings .security) (d .settings .user .1);
           });
       domain =
@@ -69,7 +78,7 @@ sentAt d g t =
             base = d .base;
             pairing = d .pairing;
             last = d .last;
-            sending = Open (d .«next_counter» % 16) (g .0) (g .1) t;
+            sending = Open (d .«next_counter» % 16) seconds nanoseconds t;
             number = d .number;
             user = d .user;
             sgw = d .sgw;
@@ -79,15 +88,9 @@ sentAt d g t =
           };
     }
 
-abbrev pub restOf : Domain → SendStep
-restOf d = record { answer = NotDue; domain = d }
-
-abbrev pub sendWith : Domain → GlobalTime → VirtualLocalTime → SendStep
-sendWith d g t = cond (dueWith d g t) (sentAt d g t) (restOf d)
-
-abbrev pub sendFrom : Held → Domain → VirtualLocalTime → SendStep
-sendFrom Unset d t = restOf d
-sendFrom (Set b) d t = sendWith d (timeAt b t) t
+abbrev pub sendAs : Due → Domain → VirtualLocalTime → SendStep
+sendAs (At seconds nanoseconds) d t = sentOf d seconds nanoseconds t
+sendAs No d t = record { answer = NotDue; domain = d }
 
 abbrev pub sendOf : Domain → VirtualLocalTime → SendStep
-sendOf d t = sendFrom (d .base) d t
+sendOf d t = sendAs (dueIn d t) d t

@@ -7,7 +7,7 @@ use domain::Sending;
 use frame::Fup;
 use refusal::Refusal;
 ghost use mathlib.Core.Path.{_≡_};
-ghost use Rattle.master.specs.Confirm.{refusedOf, followUpOf, closedOf, openOf, confirmOf};
+ghost use Rattle.master.specs.Confirm.{followFrom, followOf, confirmOf};
 
 pub enum ConfirmAnswer {
     Followed(Fup),
@@ -19,101 +19,102 @@ pub struct ConfirmStep {
     pub domain: Domain,
 }
 
-// The FUP of the open SYNC, or 11, 13.
+// The FUP of the open SYNC, which is then no longer open, or 11, 13.
 pub fn confirm(domain: Domain, t: VirtualLocalTime, counter: u8) -> ConfirmStep
     ensures { λ r. ⌜ r ≡ confirmOf domain t counter ⌝ }
 {
+    let settings = domain.settings;
     let sending = domain.sending;
+    match follow_up(settings.confirmation_time, sending, t, counter) {
+        Follow::Refused(refusal) => ConfirmStep {
+            answer: ConfirmAnswer::Refused(refusal),
+            domain,
+        },
+        Follow::With {
+            ovs,
+            nanoseconds,
+            sent_at,
+        } => {
+            let base = domain.base;
+            let pairing = domain.pairing;
+            let last = domain.last;
+            let user = domain.user;
+            let leap = domain.leap;
+            let security = settings.security;
+            let sent = settings.user;
+            ConfirmStep {
+                answer: ConfirmAnswer::Followed(Fup {
+                    domain: domain.number,
+                    counter,
+                    sgw: false,
+                    ovs,
+                    nanoseconds,
+                    protection: protection(security, sent.2),
+                }),
+                domain: Domain {
+                    settings,
+                    base,
+                    pairing,
+                    last,
+                    sending: Sending::Confirmed(sent_at),
+                    number: domain.number,
+                    user,
+                    sgw: domain.sgw,
+                    leap,
+                    updates: domain.updates,
+                    next_counter: domain.next_counter,
+                },
+            }
+        }
+    }
+}
+
+// What a confirmation finds: the time of its FUP and when its SYNC was sent, or the number by which it
+// is refused.
+pub enum Follow {
+    With {
+        ovs: u8,
+        nanoseconds: u32,
+        sent_at: VirtualLocalTime,
+    },
+    Refused(Refusal),
+}
+
+// The time comes from the open SYNC alone, never from the base.
+fn follow_up(confirmation_time: u32, sending: Sending, t: VirtualLocalTime, counter: u8) -> Follow
+    ensures { λ r. ⌜ r ≡ followOf «confirmation_time» sending t counter ⌝ }
+{
     match sending {
-        Sending::Never => refused(domain, Refusal::NoOpenSync),
+        Sending::Never => Follow::Refused(Refusal::NoOpenSync),
         Sending::Open {
             counter: sent,
             seconds,
             nanoseconds,
             at,
         } => {
-            let time = GlobalTime(seconds as u64, nanoseconds);
-            confirm_open(domain, t, counter, sent, time, at)
+            if sent != counter {
+                return Follow::Refused(Refusal::NoOpenSync);
+            }
+            if (confirmation_time as u64) < t.since(at) {
+                return Follow::Refused(Refusal::NoOpenSync);
+            }
+            follow_from(GlobalTime(seconds as u64, nanoseconds), at, t)
         }
-        Sending::Confirmed(_) => refused(domain, Refusal::NoOpenSync),
+        Sending::Confirmed(_) => Follow::Refused(Refusal::NoOpenSync),
     }
 }
 
-fn refused(domain: Domain, refusal: Refusal) -> ConfirmStep
-    ensures { λ r. ⌜ r ≡ refusedOf domain refusal ⌝ }
+fn follow_from(time: GlobalTime, at: VirtualLocalTime, t: VirtualLocalTime) -> Follow
+    ensures { λ r. ⌜ r ≡ followFrom time at t ⌝ }
 {
-    ConfirmStep {
-        answer: ConfirmAnswer::Refused(refusal),
-        domain,
-    }
-}
-
-// With the open SYNC's counter, time and reading: the time of its FUP comes from these alone.
-fn confirm_open(
-    domain: Domain,
-    t: VirtualLocalTime,
-    counter: u8,
-    sent: u8,
-    time: GlobalTime,
-    at: VirtualLocalTime,
-) -> ConfirmStep
-    ensures { λ r. ⌜ r ≡ openOf domain t counter sent time at ⌝ }
-{
-    let age = t.since(at);
-    if sent != counter {
-        return refused(domain, Refusal::NoOpenSync);
-    }
-    if (domain.settings.confirmation_time as u64) < age {
-        return refused(domain, Refusal::NoOpenSync);
-    }
-    let whole = time.advance(age);
+    let whole = time.advance(t.since(at));
     let ovs = whole.0 - time.0;
     if 3 < ovs {
-        return refused(domain, Refusal::Ovs);
+        return Follow::Refused(Refusal::Ovs);
     }
-    ConfirmStep {
-        answer: ConfirmAnswer::Followed(follow_up(domain, counter, ovs as u8, whole.1)),
-        domain: closed(domain, at),
-    }
-}
-
-fn follow_up(domain: Domain, counter: u8, ovs: u8, nanoseconds: u32) -> Fup
-    ensures { λ r. ⌜ r ≡ followUpOf domain counter ovs nanoseconds ⌝ }
-{
-    let settings = domain.settings;
-    let security = settings.security;
-    let bytes = settings.user;
-    Fup {
-        domain: domain.number,
-        counter,
-        sgw: false,
-        ovs,
-        nanoseconds,
-        protection: protection(security, bytes.2),
-    }
-}
-
-// The record whose SYNC, sent at `at`, is no longer open.
-fn closed(domain: Domain, at: VirtualLocalTime) -> Domain
-    ensures { λ r. ⌜ r ≡ closedOf domain at ⌝ }
-{
-    let settings = domain.settings;
-    let base = domain.base;
-    let pairing = domain.pairing;
-    let last = domain.last;
-    let user = domain.user;
-    let leap = domain.leap;
-    Domain {
-        settings,
-        base,
-        pairing,
-        last,
-        sending: Sending::Confirmed(at),
-        number: domain.number,
-        user,
-        sgw: domain.sgw,
-        leap,
-        updates: domain.updates,
-        next_counter: domain.next_counter,
+    Follow::With {
+        ovs: ovs as u8,
+        nanoseconds: whole.1,
+        sent_at: at,
     }
 }

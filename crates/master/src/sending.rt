@@ -8,19 +8,8 @@ use frame::Protection;
 use frame::Sync;
 use settings::Role;
 use settings::Security;
-ghost use Prim.Native.Nat.{_≤_};
 ghost use mathlib.Core.Path.{_≡_};
-ghost use Rattle.master.specs.Send.{
-  isMaster,
-  hasWaited,
-  protectionOf,
-  dueWith,
-  isDue,
-  restOf,
-  sentAt,
-  sendWith,
-  sendOf,
-};
+ghost use Rattle.master.specs.Send.{isMaster, hasWaited, dueOf, isDue, protectionOf, sendOf};
 
 // What a domain's turn in a main cycle gives.
 pub enum SendAnswer {
@@ -37,57 +26,99 @@ pub struct SendStep {
 pub fn is_due(domain: Domain, t: VirtualLocalTime) -> bool
     ensures { λ r. ⌜ r ≡ isDue domain t ⌝ }
 {
+    let settings = domain.settings;
+    let role = settings.role;
     let base = domain.base;
-    match base {
-        Held::Unset => false,
-        Held::Set(set) => due_with(domain, set.time_at(t), t),
+    let sending = domain.sending;
+    match due_at(role, settings.period, base, sending, t) {
+        Due::At {
+            seconds: _,
+            nanoseconds: _,
+        } => true,
+        Due::No => false,
     }
 }
 
-// Sends a SYNC if the domain is due at t.
+// Sends a SYNC if the domain is due at t. The record then holds it as open.
 pub fn send(domain: Domain, t: VirtualLocalTime) -> SendStep
     ensures { λ r. ⌜ r ≡ sendOf domain t ⌝ }
 {
-    let base = domain.base;
-    match base {
-        Held::Unset => rest(domain),
-        Held::Set(set) => send_with(domain, set.time_at(t), t),
-    }
-}
-
-fn rest(domain: Domain) -> SendStep
-    ensures { λ r. ⌜ r ≡ restOf domain ⌝ }
-{
-    SendStep {
-        answer: SendAnswer::NotDue,
-        domain,
-    }
-}
-
-fn send_with(domain: Domain, time: GlobalTime, t: VirtualLocalTime) -> SendStep
-    ensures { λ r. ⌜ r ≡ sendWith domain time t ⌝ }
-{
-    if due_with(domain, time, t) {
-        sent(domain, time, t)
-    } else {
-        rest(domain)
-    }
-}
-
-// With the time that the base has at t.
-fn due_with(domain: Domain, time: GlobalTime, t: VirtualLocalTime) -> bool
-    ensures { λ r. ⌜ r ≡ dueWith domain time t ⌝ }
-{
     let settings = domain.settings;
     let role = settings.role;
+    let base = domain.base;
     let sending = domain.sending;
+    let Due::At {
+        seconds,
+        nanoseconds,
+    } = due_at(role, settings.period, base, sending, t)
+    else {
+        return SendStep {
+            answer: SendAnswer::NotDue,
+            domain,
+        };
+    };
+    let pairing = domain.pairing;
+    let last = domain.last;
+    let user = domain.user;
+    let leap = domain.leap;
+    let counter = domain.next_counter % 16;
+    let security = settings.security;
+    let sent = settings.user;
+    SendStep {
+        answer: SendAnswer::Sent(Sync {
+            domain: domain.number,
+            counter,
+            user0: sent.0,
+            seconds,
+            protection: protection(security, sent.1),
+        }),
+        domain: Domain {
+            settings,
+            base,
+            pairing,
+            last,
+            sending: Sending::Open {
+                counter,
+                seconds,
+                nanoseconds,
+                at: t,
+            },
+            number: domain.number,
+            user,
+            sgw: domain.sgw,
+            leap,
+            updates: domain.updates,
+            next_counter: (counter + 1) % 16,
+        },
+    }
+}
+
+// Whether a domain is due, with the time that its SYNC then has.
+pub enum Due {
+    At { seconds: u32, nanoseconds: u32 },
+    No,
+}
+
+fn due_at(role: Role, period: u64, base: Held, sending: Sending, t: VirtualLocalTime) -> Due
+    ensures { λ r. ⌜ r ≡ dueOf role period base sending t ⌝ }
+{
+    let Held::Set(set) = base else {
+        return Due::No;
+    };
+    let time = set.time_at(t);
     if GlobalTime::SET_SECONDS_MAX < time.0 {
-        return false;
+        return Due::No;
     }
     if !is_master(role) {
-        return false;
+        return Due::No;
     }
-    has_waited(settings.period, sending, t)
+    if !has_waited(period, sending, t) {
+        return Due::No;
+    }
+    Due::At {
+        seconds: time.0 as u32,
+        nanoseconds: time.1,
+    }
 }
 
 fn is_master(role: Role) -> bool
@@ -112,51 +143,6 @@ fn has_waited(period: u64, sending: Sending, t: VirtualLocalTime) -> bool
             at,
         } => period <= t.since(at),
         Sending::Confirmed(at) => period <= t.since(at),
-    }
-}
-
-// The SYNC that leaves with the time at t, and the record that holds it as open.
-fn sent(domain: Domain, time: GlobalTime, t: VirtualLocalTime) -> SendStep
-    requires { ⌜ time .0 ≤ 4294967295 ⌝ }
-    ensures { λ r. ⌜ r ≡ sentAt domain time t ⌝ }
-{
-    let settings = domain.settings;
-    let base = domain.base;
-    let pairing = domain.pairing;
-    let last = domain.last;
-    let user = domain.user;
-    let leap = domain.leap;
-    let counter = domain.next_counter % 16;
-    let seconds = time.0 as u32;
-    let security = settings.security;
-    let bytes = settings.user;
-    let sync = Sync {
-        domain: domain.number,
-        counter,
-        user0: bytes.0,
-        seconds,
-        protection: protection(security, bytes.1),
-    };
-    SendStep {
-        answer: SendAnswer::Sent(sync),
-        domain: Domain {
-            settings,
-            base,
-            pairing,
-            last,
-            sending: Sending::Open {
-                counter,
-                seconds,
-                nanoseconds: time.1,
-                at: t,
-            },
-            number: domain.number,
-            user,
-            sgw: domain.sgw,
-            leap,
-            updates: domain.updates,
-            next_counter: (counter + 1) % 16,
-        },
     }
 }
 

@@ -7,7 +7,7 @@ use domain::Domain;
 use domain::next_update;
 use refusal::Refusal;
 ghost use mathlib.Core.Path.{_≡_};
-ghost use Rattle.master.specs.Set.{withTime, setOf};
+ghost use Rattle.master.specs.Set.{setOf};
 
 pub enum SetAnswer {
     Done,
@@ -29,32 +29,26 @@ pub fn set_time(domain: Domain, t: VirtualLocalTime, seconds: u32, nanoseconds: 
             domain,
         };
     }
-    SetStep {
-        answer: SetAnswer::Done,
-        domain: with_time(domain, GlobalTime(seconds as u64, nanoseconds), t),
-    }
-}
-
-fn with_time(domain: Domain, time: GlobalTime, t: VirtualLocalTime) -> Domain
-    ensures { λ r. ⌜ r ≡ withTime domain time t ⌝ }
-{
     let settings = domain.settings;
     let pairing = domain.pairing;
     let last = domain.last;
     let sending = domain.sending;
     let user = domain.user;
     let leap = domain.leap;
-    Domain {
-        settings,
-        base: Held::Set(TimeBase::new(time, t)),
-        pairing,
-        last,
-        sending,
-        number: domain.number,
-        user,
-        sgw: domain.sgw,
-        leap,
-        updates: next_update(domain.updates),
-        next_counter: domain.next_counter,
+    SetStep {
+        answer: SetAnswer::Done,
+        domain: Domain {
+            settings,
+            base: Held::Set(TimeBase::new(GlobalTime(seconds as u64, nanoseconds), t)),
+            pairing,
+            last,
+            sending,
+            number: domain.number,
+            user,
+            sgw: domain.sgw,
+            leap,
+            updates: next_update(domain.updates),
+            next_counter: domain.next_counter,
+        },
     }
 }

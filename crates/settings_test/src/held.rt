@@ -7,20 +7,14 @@ use settings::DomainSettings;
 use settings::Role;
 use settings::Security;
 
-pub fn slaves() {
-    held(given(Role::Slave, CheckMode::Validated, Security::Secured));
-    held(given(Role::Slave, CheckMode::NotValidated, Security::Secured));
-    held(given(Role::Slave, CheckMode::Ignored, Security::Secured));
-    held(given(Role::Slave, CheckMode::Optional, Security::Secured));
-}
-
-pub fn masters() {
-    held(given(Role::Master, CheckMode::Optional, Security::Plain));
-    held(given(Role::Master, CheckMode::Optional, Security::Secured));
-}
-
-pub fn absent() {
-    held(given(Role::Absent, CheckMode::Optional, Security::Secured));
+pub fn roles() {
+    held(Role::Slave, CheckMode::Validated, Security::Secured);
+    held(Role::Slave, CheckMode::NotValidated, Security::Secured);
+    held(Role::Slave, CheckMode::Ignored, Security::Secured);
+    held(Role::Slave, CheckMode::Optional, Security::Secured);
+    held(Role::Master, CheckMode::Optional, Security::Plain);
+    held(Role::Master, CheckMode::Optional, Security::Secured);
+    held(Role::Absent, CheckMode::Optional, Security::Secured);
     line::word(b"absent");
     whole(DomainSettings::absent());
 }
@@ -47,7 +41,8 @@ fn given(role: Role, mode: CheckMode, security: Security) -> DomainSettings {
 
 // ---- the lines
 
-fn held(s: DomainSettings) {
+fn held(role: Role, mode: CheckMode, security: Security) {
+    let s = given(role, mode, security);
     line::word(b"given");
     whole(s);
     line::word(b"held");

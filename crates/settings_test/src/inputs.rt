@@ -36,8 +36,8 @@ pub fn settings(
 }
 
 // A slave whose fields of a master are out of range.
-pub fn slave(j: u8, f: u64, l: u64, future: u64, past: u64) -> DomainSettings {
-    settings(Role::Slave, j, f, l, future, past, 0, 0)
+pub fn slave(j: u8, f: u64, l: u64) -> DomainSettings {
+    settings(Role::Slave, j, f, l, 0, 0, 0, 0)
 }
 
 // A master whose fields of a slave are out of range.
@@ -62,7 +62,7 @@ pub fn absent() -> DomainSettings {
 // Good domains, of each role.
 pub fn good_domains() -> [DomainSettings; 16] {
     let a = absent();
-    let s = slave(15, 1, 2, 0, 0);
+    let s = slave(15, 1, 2);
     let m = master(1_000_000, 1);
     [s, m, a, m, s, a, a, s, m, m, a, s, s, a, m, s]
 }

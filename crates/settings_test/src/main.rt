@@ -18,7 +18,6 @@ fn main() {
     ranges::junk();
     nodes::cycles();
     nodes::places();
-    held::slaves();
-    held::masters();
-    held::absent();
+    nodes::ends();
+    held::roles();
 }

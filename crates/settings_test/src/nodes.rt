@@ -10,48 +10,54 @@ use settings::NodeSettings;
 use settings::Verdict;
 
 pub fn cycles() {
-    judged(0, 0, absent());
-    judged(1, 0, absent());
-    judged(2, 0, absent());
-    judged(16, 0, absent());
-    judged(17, 0, absent());
-    judged(255, 0, absent());
+    let s = absent();
+    node(0, 0, s);
+    node(1, 0, s);
+    node(2, 0, s);
+    node(16, 0, s);
+    node(17, 0, s);
+    node(255, 0, s);
 }
 
-// One fault, at each place; then other faults, and none, at the ends.
+// One fault, at each place.
 pub fn places() {
-    let fault = slave(16, 1, 2, 0, 0);
-    judged(1, 0, fault);
-    judged(1, 1, fault);
-    judged(1, 2, fault);
-    judged(1, 3, fault);
-    judged(1, 4, fault);
-    judged(1, 5, fault);
-    judged(1, 6, fault);
-    judged(1, 7, fault);
-    judged(1, 8, fault);
-    judged(1, 9, fault);
-    judged(1, 10, fault);
-    judged(1, 11, fault);
-    judged(1, 12, fault);
-    judged(1, 13, fault);
-    judged(1, 14, fault);
-    judged(16, 15, fault);
-    judged(17, 15, fault);
-    judged(1, 0, master(1_000_000, 1_000_000));
-    judged(16, 15, master(1_000_000, 1_000_000));
-    judged(1, 0, master(1_000_000, 999_999));
-    judged(16, 15, master(1_000_000, 999_999));
-    judged(1, 0, slave(1, 1, 1, 0, 0));
-    judged(16, 15, slave(1, 1, 1, 0, 0));
-    judged(1, 0, slave(1, 1, 2, 0, 0));
-    judged(16, 15, slave(1, 1, 2, 0, 0));
-    judged(1, 15, absent());
+    let s = slave(16, 1, 2);
+    node(1, 0, s);
+    node(1, 1, s);
+    node(1, 2, s);
+    node(1, 3, s);
+    node(1, 4, s);
+    node(1, 5, s);
+    node(1, 6, s);
+    node(1, 7, s);
+    node(1, 8, s);
+    node(1, 9, s);
+    node(1, 10, s);
+    node(1, 11, s);
+    node(1, 12, s);
+    node(1, 13, s);
+    node(1, 14, s);
+    node(1, 15, s);
+    node(17, 15, s);
 }
 
-// ---- the line
+// Other faults, and none, at the ends.
+pub fn ends() {
+    at_ends(slave(1, 1, 1));
+    at_ends(slave(1, 1, 2));
+    at_ends(master(1_000_000, 1_000_000));
+    at_ends(master(1_000_000, 999_999));
+    at_ends(absent());
+}
 
-fn judged(syncs_per_cycle: u8, place: usize, s: DomainSettings) {
+// ---- the lines
+
+fn at_ends(s: DomainSettings) {
+    node(1, 0, s);
+    node(16, 15, s);
+}
+
+fn node(syncs_per_cycle: u8, place: usize, s: DomainSettings) {
     line::word(b"node S");
     line::number(syncs_per_cycle as u64);
     line::word(b" at");
@@ -61,8 +67,14 @@ fn judged(syncs_per_cycle: u8, place: usize, s: DomainSettings) {
         syncs_per_cycle,
         domains: with(place, s),
     };
-    line::number(numbered(node.judge()));
-    line::word(b"\n");
+    match node.judge() {
+        Verdict::Good => line::word(b" good 0\n"),
+        Verdict::Refused(refusal) => {
+            line::word(b" refused");
+            line::number(refusal.number() as u64);
+            line::word(b"\n");
+        }
+    }
 }
 
 // The good domains with another one at a place below 16.
@@ -72,11 +84,4 @@ fn with(place: usize, s: DomainSettings) -> [DomainSettings; 16] {
         domains[place] = s;
     }
     domains
-}
-
-fn numbered(verdict: Verdict) -> u64 {
-    match verdict {
-        Verdict::Good => 0,
-        Verdict::Refused(refusal) => refusal.number() as u64,
-    }
 }

@@ -1,7 +1,5 @@
 // The table of ranges. A line is the role, every number, and whether they are good.
-use crate::inputs::master;
 use crate::inputs::settings;
-use crate::inputs::slave;
 use crate::line;
 use settings::DomainSettings;
 use settings::NodeSettings;
@@ -26,96 +24,96 @@ pub fn limits() {
 }
 
 pub fn jump_widths() {
-    judged(slave(0, 100, 200, 0, 0));
-    judged(slave(1, 100, 200, 0, 0));
-    judged(slave(2, 100, 200, 0, 0));
-    judged(slave(15, 100, 200, 0, 0));
-    judged(slave(16, 100, 200, 0, 0));
-    judged(slave(255, 100, 200, 0, 0));
+    slave(0, 100, 200, 0, 0);
+    slave(1, 100, 200, 0, 0);
+    slave(2, 100, 200, 0, 0);
+    slave(15, 100, 200, 0, 0);
+    slave(16, 100, 200, 0, 0);
+    slave(255, 100, 200, 0, 0);
 }
 
 pub fn follow_up_times() {
-    judged(slave(1, 0, 1_000_000_000_000, 0, 0));
-    judged(slave(1, 1, 1_000_000_000_000, 0, 0));
-    judged(slave(1, 10_000_000_000, 1_000_000_000_000, 0, 0));
-    judged(slave(1, 10_000_000_001, 1_000_000_000_000, 0, 0));
-    judged(slave(1, u64::MAX, 1_000_000_000_000, 0, 0));
+    slave(1, 0, 1_000_000_000_000, 0, 0);
+    slave(1, 1, 1_000_000_000_000, 0, 0);
+    slave(1, 10_000_000_000, 1_000_000_000_000, 0, 0);
+    slave(1, 10_000_000_001, 1_000_000_000_000, 0, 0);
+    slave(1, u64::MAX, 1_000_000_000_000, 0, 0);
 }
 
 // Around F at both of its ends, and the most.
 pub fn loss_times() {
-    judged(slave(1, 1, 0, 0, 0));
-    judged(slave(1, 1, 1, 0, 0));
-    judged(slave(1, 1, 2, 0, 0));
-    judged(slave(1, 10_000_000_000, 9_999_999_999, 0, 0));
-    judged(slave(1, 10_000_000_000, 10_000_000_000, 0, 0));
-    judged(slave(1, 10_000_000_000, 10_000_000_001, 0, 0));
-    judged(slave(1, 1, 1_000_000_000_000, 0, 0));
-    judged(slave(1, 1, 1_000_000_000_001, 0, 0));
-    judged(slave(1, 1, u64::MAX, 0, 0));
-    judged(slave(1, 0, 0, 0, 0));
+    slave(1, 1, 0, 0, 0);
+    slave(1, 1, 1, 0, 0);
+    slave(1, 1, 2, 0, 0);
+    slave(1, 10_000_000_000, 9_999_999_999, 0, 0);
+    slave(1, 10_000_000_000, 10_000_000_000, 0, 0);
+    slave(1, 10_000_000_000, 10_000_000_001, 0, 0);
+    slave(1, 1, 1_000_000_000_000, 0, 0);
+    slave(1, 1, 1_000_000_000_001, 0, 0);
+    slave(1, 1, u64::MAX, 0, 0);
+    slave(1, 0, 0, 0, 0);
 }
 
 pub fn thresholds() {
-    judged(slave(1, 1, 2, 1, 0));
-    judged(slave(1, 1, 2, 0, 1));
-    judged(slave(1, 1, 2, 1_000_000_000_000, 0));
-    judged(slave(1, 1, 2, 1_000_000_000_001, 0));
-    judged(slave(1, 1, 2, u64::MAX, 0));
-    judged(slave(1, 1, 2, 0, 1_000_000_000_000));
-    judged(slave(1, 1, 2, 0, 1_000_000_000_001));
-    judged(slave(1, 1, 2, 0, u64::MAX));
-    judged(slave(1, 1, 2, 1_000_000_000_000, 1_000_000_000_000));
-    judged(slave(1, 1, 2, 1_000_000_000_001, 1_000_000_000_001));
-    judged(slave(
+    slave(1, 1, 2, 1, 0);
+    slave(1, 1, 2, 0, 1);
+    slave(1, 1, 2, 1_000_000_000_000, 0);
+    slave(1, 1, 2, 1_000_000_000_001, 0);
+    slave(1, 1, 2, u64::MAX, 0);
+    slave(1, 1, 2, 0, 1_000_000_000_000);
+    slave(1, 1, 2, 0, 1_000_000_000_001);
+    slave(1, 1, 2, 0, u64::MAX);
+    slave(1, 1, 2, 1_000_000_000_000, 1_000_000_000_000);
+    slave(1, 1, 2, 1_000_000_000_001, 1_000_000_000_001);
+    slave(
         15,
         10_000_000_000,
         1_000_000_000_000,
         1_000_000_000_000,
         1_000_000_000_000,
-    ));
+    );
 }
 
 pub fn periods() {
-    judged(master(0, 1));
-    judged(master(999_999, 1));
-    judged(master(1_000_000, 1));
-    judged(master(1_000_000_000_000, 1));
-    judged(master(1_000_000_000_001, 1));
-    judged(master(u64::MAX, 1));
+    master(0, 1);
+    master(999_999, 1);
+    master(1_000_000, 1);
+    master(1_000_000_000_000, 1);
+    master(1_000_000_000_001, 1);
+    master(u64::MAX, 1);
 }
 
 // Its own ends, then around P.
 pub fn confirmation_times() {
-    judged(master(1_000_000_000_000, 0));
-    judged(master(1_000_000_000_000, 1));
-    judged(master(1_000_000_000_000, 3_000_000_000));
-    judged(master(1_000_000_000_000, 3_000_000_001));
-    judged(master(1_000_000_000_000, u32::MAX));
-    judged(master(1_000_000, 0));
-    judged(master(1_000_000, 999_999));
-    judged(master(1_000_000, 1_000_000));
-    judged(master(1_000_000, 1_000_001));
-    judged(master(3_000_000_000, 2_999_999_999));
-    judged(master(3_000_000_000, 3_000_000_000));
-    judged(master(3_000_000_001, 3_000_000_000));
-    judged(master(3_000_000_002, 3_000_000_001));
+    master(1_000_000_000_000, 0);
+    master(1_000_000_000_000, 1);
+    master(1_000_000_000_000, 3_000_000_000);
+    master(1_000_000_000_000, 3_000_000_001);
+    master(1_000_000_000_000, u32::MAX);
+    master(1_000_000, 0);
+    master(1_000_000, 999_999);
+    master(1_000_000, 1_000_000);
+    master(1_000_000, 1_000_001);
+    master(3_000_000_000, 2_999_999_999);
+    master(3_000_000_000, 3_000_000_000);
+    master(3_000_000_001, 3_000_000_000);
+    master(3_000_000_002, 3_000_000_001);
 }
 
 // What a role does not read, at either end; an absent domain reads nothing.
 pub fn junk() {
-    judged(settings(Role::Slave, 1, 1, 2, 0, 0, u64::MAX, u32::MAX));
-    judged(settings(Role::Slave, 1, 1, 2, 0, 0, 1_000_000, 1_000_000));
-    judged(settings(Role::Slave, 1, 1, 2, 0, 0, 1_000_000, 1));
-    judged(settings(Role::Slave, 0, 1, 2, 0, 0, 1_000_000, 1));
-    judged(settings(Role::Master, 0, 0, 0, 0, 0, 1_000_000, 1));
-    judged(settings(Role::Master, 255, u64::MAX, u64::MAX, 0, 0, 1_000_000, 1));
-    judged(settings(Role::Master, 1, 2, 2, 0, 0, 1_000_000, 1));
-    judged(settings(Role::Master, 1, 1, 2, 0, 0, 1_000_000, 1));
-    judged(settings(Role::Master, 1, 1, 2, 0, 0, 0, 0));
-    judged(settings(Role::Absent, 0, 0, 0, 0, 0, 0, 0));
-    judged(settings(Role::Absent, 1, 1, 2, 0, 0, 1_000_000, 1));
-    judged(settings(
+    range(Role::Slave, 1, 1, 2, 0, 0, u64::MAX, u32::MAX);
+    range(Role::Slave, 1, 1, 2, 0, 0, 1_000_000, 1_000_000);
+    range(Role::Slave, 1, 1, 2, 0, 0, 1_000_000, 1);
+    range(Role::Slave, 0, 1, 2, 0, 0, 1_000_000, 1);
+    range(Role::Master, 0, 0, 0, 0, 0, 1_000_000, 1);
+    range(Role::Master, 255, u64::MAX, u64::MAX, 0, 0, 1_000_000, 1);
+    range(Role::Master, 1, 2, 2, 0, 0, 1_000_000, 1);
+    range(Role::Master, 1, 1, 2, 0, 0, 1_000_000, 1);
+    range(Role::Master, 1, 1, 2, 0, 0, 0, 0);
+    range(Role::Absent, 0, 0, 0, 0, 0, 0, 0);
+    range(Role::Absent, 1, 1, 2, 0, 0, 1_000_000, 1);
+    range(
         Role::Absent,
         255,
         u64::MAX,
@@ -124,12 +122,23 @@ pub fn junk() {
         u64::MAX,
         u64::MAX,
         u32::MAX,
-    ));
+    );
 }
 
-// ---- the line
+// ---- the lines
 
-fn judged(s: DomainSettings) {
+// A slave whose fields of a master are out of range.
+fn slave(j: u8, f: u64, l: u64, future: u64, past: u64) {
+    range(Role::Slave, j, f, l, future, past, 0, 0);
+}
+
+// A master whose fields of a slave are out of range.
+fn master(p: u64, c: u32) {
+    range(Role::Master, 0, 0, 0, u64::MAX, u64::MAX, p, c);
+}
+
+fn range(role: Role, j: u8, f: u64, l: u64, future: u64, past: u64, p: u64, c: u32) {
+    let s = settings(role, j, f, l, future, past, p, c);
     line::word(b"range");
     line::numbers(s);
     if s.is_good() {

@@ -18,6 +18,8 @@ use lib.Dec.{eqb}
 use lib.IntN.{ℤ, pos, negsuc}
 use Rattle.promise.proofs.Laws.{either}
 use Rattle.clock.specs.declared.reading.VirtualLocalTime.{VirtualLocalTime}
+use Rattle.clock.specs.declared.base.Held.{Held}
+use Rattle.clock.specs.declared.base.Held.the-variants.{Unset, Set}
 use Rattle.clock.specs.Time.{IsReceived}
 use Rattle.frame.specs.declared.values.Sync.{Sync}
 use Rattle.frame.specs.declared.values.Fup.{Fup}
@@ -29,15 +31,15 @@ use Rattle.domain.specs.declared.Domain.{Domain}
 use Rattle.domain.specs.declared.Pair.{Pair}
 use Rattle.domain.specs.declared.Pairing.{Pairing}
 use Rattle.domain.specs.declared.Pairing.the-variants.{Waiting, Open}
-use Rattle.slave.specs.declared.fup.Change.{Change}
-use Rattle.slave.specs.declared.fup.Change.the-variants.{First, By}
-use Rattle.slave.specs.declared.step.FrameAnswer.the-variants.{Refused}
+use Rattle.slave.specs.declared.step.FrameAnswer.the-variants.{Refused as refused}
+use Rattle.slave.specs.declared.fup.Joined.{Joined}
+use Rattle.slave.specs.declared.fup.Joined.the-variants.{With, Refused}
 use Rattle.slave.specs.declared.step.FrameStep.{FrameStep}
 use Rattle.slave.specs.Answer.{frameNumber}
 use Rattle.slave.specs.Counter.{stepOf}
 use Rattle.slave.specs.Sync.{takesSync, syncOf}
 use Rattle.slave.specs.Leap.{isFuture, isPast}
-use Rattle.slave.specs.Fup.{newBase, changeOf, takenBy, isOld, isOfPair, inRange, joinedOf, fupWith, fupOf}
+use Rattle.slave.specs.Fup.{newBase, isOld, isOfPair, inRange, joinedOf, updateOf, takenBy, fupAs, fupOf}
 use Rattle.slave.specs.Step.{kindOf, frameOf}
 
 pub step-exact : (last new : ℕ) → last < 16 → new < 16 → stepOf last new ≡ (new + 16 - last) % 16
@@ -46,28 +48,23 @@ step-exact last new p q = rw (mod-eq-of-lt q, mod-eq-of-lt p)
 -- ---- a refusal keeps the record
 
 abbrev Keeps : Domain → FrameStep → Type 0
-Keeps d r = (refusal : Refusal) → r .answer ≡ Refused refusal → r .domain ≡ d
+Keeps d r = (refusal : Refusal) → r .answer ≡ refused refusal → r .domain ≡ d
 
 pub refusal-keeps-sync : (d : Domain) (t : VirtualLocalTime) (s : Sync) → Keeps d (syncOf d t s)
 refusal-keeps-sync d t s = either (Keeps d) (takesSync d t s) (λ r e. cc) (λ r e. refl)
 
-taken-keeps : (c : Change) (d : Domain) (p : Pair) (f : Fup) → Keeps d (takenBy c d p f)
-taken-keeps First d p f = λ r e. cc
-taken-keeps (By δ) d p f = λ r e. cc
-
-joined-keeps : (d : Domain) (p : Pair) (t : VirtualLocalTime) (f : Fup) → Keeps d (joinedOf d p t f)
-joined-keeps d p t f =
-    either (Keeps d) (isOld (d .settings .«follow_up_time») p t) (λ r e. refl)
-    (either (Keeps d) (isOfPair p f)
-    (either (Keeps d) (inRange f) (taken-keeps (changeOf (d .base) (newBase p f)) d p f) (λ r e. refl))
-    (λ r e. refl))
-
-fup-keeps : (p : Pairing) (d : Domain) (t : VirtualLocalTime) (f : Fup) → Keeps d (fupWith p d t f)
-fup-keeps Waiting d t f = λ r e. refl
-fup-keeps (Open p) d t f = joined-keeps d p t f
+as-keeps : (j : Joined) (d : Domain) (f : Fup) → Keeps d (fupAs j d f)
+as-keeps (Refused refusal) d f = λ r e. refl
+as-keeps (With p) d f = update-keeps (d .base)
+  where
+    update-keeps :
+        (b : Held) →
+        Keeps d (takenBy (updateOf (d .settings .«future_threshold») (d .settings .«past_threshold») b (newBase p f)) d p f)
+    update-keeps Unset = λ r e. cc
+    update-keeps (Set old) = λ r e. cc
 
 pub refusal-keeps-fup : (d : Domain) (t : VirtualLocalTime) (f : Fup) → Keeps d (fupOf d t f)
-refusal-keeps-fup d t f = fup-keeps (d .pairing) d t f
+refusal-keeps-fup d t f = as-keeps (joinedOf (d .settings .«follow_up_time») (d .pairing) t f) d f
 
 kind-keeps : (v : Frame) (d : Domain) (t : VirtualLocalTime) → Keeps d (kindOf d t v)
 kind-keeps (sync s) d t = refusal-keeps-sync d t s
@@ -83,23 +80,23 @@ refusal-keeps-frame d t bytes values =
 pub sync-keeps-base : (d : Domain) (t : VirtualLocalTime) (s : Sync) → syncOf d t s .domain .base ≡ d .base
 sync-keeps-base d t s = either (λ (r : FrameStep). r .domain .base ≡ d .base) (takesSync d t s) refl refl
 
-abbrev Closes : FrameStep → Type 0
-Closes r = frameNumber (r .answer) ≡ 0 → r .domain .pairing ≡ Waiting
+pub fup-closes :
+    (d : Domain) (t : VirtualLocalTime) (f : Fup) → frameNumber (fupOf d t f .answer) ≡ 0 →
+    fupOf d t f .domain .pairing ≡ Waiting
+fup-closes d t f = closes (d .pairing)
+  where
+    l : ℕ
+    l = d .settings .«follow_up_time»
 
-taken-closes : (c : Change) (d : Domain) (p : Pair) (f : Fup) → Closes (takenBy c d p f)
-taken-closes First d p f = λ e. refl
-taken-closes (By δ) d p f = λ e. refl
+    Closed : Joined → Type 0
+    Closed j = frameNumber (fupAs j d f .answer) ≡ 0 → fupAs j d f .domain .pairing ≡ Waiting
 
-closes : (p : Pairing) (d : Domain) (t : VirtualLocalTime) (f : Fup) → Closes (fupWith p d t f)
-closes Waiting d t f = λ e. absurd (omega arith)
-closes (Open p) d t f =
-    either Closes (isOld (d .settings .«follow_up_time») p t) (λ e. absurd (omega arith))
-    (either Closes (isOfPair p f)
-    (either Closes (inRange f) (taken-closes (changeOf (d .base) (newBase p f)) d p f) (λ e. absurd (omega arith)))
-    (λ e. absurd (omega arith)))
-
-pub fup-closes : (d : Domain) (t : VirtualLocalTime) (f : Fup) → Closes (fupOf d t f)
-fup-closes d t f = closes (d .pairing) d t f
+    closes : (p : Pairing) → Closed (joinedOf l p t f)
+    closes Waiting = λ e. absurd (omega arith)
+    closes (Open p) =
+        either Closed (isOld l p t) (λ e. absurd (omega arith))
+        (either Closed (isOfPair p f) (either Closed (inRange f) (λ e. refl) (λ e. absurd (omega arith)))
+        (λ e. absurd (omega arith)))
 
 pub received-bound :
     (p : Pair) (f : Fup) → p .seconds ≤ 4294967295 → f .ovs ≤ 3 → f .nanoseconds ≤ 999999999 →

@@ -2,6 +2,7 @@
 use Prim.Native.Nat.{ℕ, _+_}
 use mathlib.Core.Bool.{Bool, cond}
 use lib.Dec.{ltb, leb, eqb}
+use lib.IntN.{ℤ}
 use Rattle.clock.specs.declared.reading.VirtualLocalTime.{VirtualLocalTime}
 use Rattle.clock.specs.declared.base.TimeBase.{TimeBase}
 use Rattle.clock.specs.declared.base.Held.{Held}
@@ -18,8 +19,9 @@ use Rattle.domain.specs.declared.Pairing.{Pairing}
 use Rattle.domain.specs.declared.Pairing.the-variants.{Waiting, Open}
 use Rattle.domain.specs.declared.Leap.{Leap}
 use Rattle.domain.specs.declared.Leap.the-variants.{None}
-use Rattle.slave.specs.declared.fup.Change.{Change}
-use Rattle.slave.specs.declared.fup.Change.the-variants.{First, By}
+use Rattle.slave.specs.declared.fup.Joined.{Joined}
+use Rattle.slave.specs.declared.fup.Joined.the-variants.{With, Refused}
+use Rattle.slave.specs.declared.fup.Update.{Update}
 use Rattle.slave.specs.declared.step.FrameAnswer.the-variants.{FirstTaken, Updated}
 use Rattle.slave.specs.declared.step.FrameStep.{FrameStep}
 use Rattle.slave.specs.Answer.{refusedOf}
@@ -29,6 +31,33 @@ use Rattle.slave.specs.User.{userIn}
 -- ---- "The base then holds seconds plus OVS, and the nanoseconds, at T2."
 abbrev pub newBase : Pair → Fup → TimeBase
 newBase p f = baseOf (record { 0 = p .seconds + f .ovs; 1 = f .nanoseconds }) (p .at)
+
+-- ---- "a pair must be open", and one "older than F counts as not open"; "the counter must be the
+-- pair's, the nanoseconds must be in range": 7, 8, 9
+abbrev pub isOld : (f : ℕ) → Pair → VirtualLocalTime → Bool
+isOld f p t = ltb f (spanOf (p .at) t)
+
+abbrev pub isOfPair : Pair → Fup → Bool
+isOfPair p fup = eqb (fup .counter) (p .counter)
+
+abbrev pub inRange : Fup → Bool
+inRange fup = leb (fup .nanoseconds) 999999999
+
+abbrev pub joinedOf : (f : ℕ) → Pairing → VirtualLocalTime → Fup → Joined
+joinedOf f Waiting t fup = Refused NoOpenPair
+joinedOf f (Open p) t fup =
+    cond (isOld f p t) (Refused NoOpenPair)
+    (cond (isOfPair p fup) (cond (inRange fup) (With p) (Refused Nanoseconds)) (Refused FupCounter))
+
+-- ---- "On each update of a set base let D be the new time minus the old base's time, both at the new
+-- T2." "The first update clears both."
+abbrev pub movedBy : TimeBase → TimeBase → ℤ
+movedBy old new = differenceOf (new .time) (timeAt old (new .at))
+
+abbrev pub updateOf : (future past : ℕ) → Held → TimeBase → Update
+updateOf future past Unset new = record { answer = FirstTaken; leap = None }
+updateOf future past (Set old) new =
+    record { answer = Updated (movedBy old new); leap = leapOf future past (movedBy old new) }
 
 -- ---- "The pair closes. The update counter rises by 1, from 255 to 0. The user bytes and SGW are
 -- stored; one that the frame kind doesn't carry reads 0."
@@ -48,45 +77,15 @@ updatedOf d p f leap =
       «next_counter» = d .«next_counter»;
     }
 
--- ---- "On each update of a set base let D be the new time minus the old base's time, both at the new
--- T2." "The first update clears both."
-abbrev pub changeOf : Held → TimeBase → Change
-changeOf Unset new = First
-changeOf (Set old) new = By (differenceOf (new .time) (timeAt old (new .at)))
+abbrev pub takenBy : Update → Domain → Pair → Fup → FrameStep
+takenBy u d p f = record { answer = u .answer; domain = updatedOf d p f (u .leap) }
 
-abbrev pub takenBy : Change → Domain → Pair → Fup → FrameStep
-takenBy First d p f = record { answer = FirstTaken; domain = updatedOf d p f None }
-takenBy (By δ) d p f =
-    record {
-      answer = Updated δ;
-      domain =
-          updatedOf d p f (leapOf (d .settings .«future_threshold») (d .settings .«past_threshold») δ);
-    }
-
-abbrev pub takenOf : Domain → Pair → Fup → FrameStep
-takenOf d p f = takenBy (changeOf (d .base) (newBase p f)) d p f
-
--- ---- "a pair must be open", and not older than F; "the counter must be the pair's, the nanoseconds
--- must be in range": 7, 8, 9
-abbrev pub isOld : (f : ℕ) → Pair → VirtualLocalTime → Bool
-isOld f p t = ltb f (spanOf (p .at) t)
-
-abbrev pub isOfPair : Pair → Fup → Bool
-isOfPair p f = eqb (f .counter) (p .counter)
-
-abbrev pub inRange : Fup → Bool
-inRange f = leb (f .nanoseconds) 999999999
-
-abbrev pub joinedOf : Domain → Pair → VirtualLocalTime → Fup → FrameStep
-joinedOf d p t f =
-    cond (isOld (d .settings .«follow_up_time») p t) (refusedOf d NoOpenPair)
-    (cond (isOfPair p f)
-    (cond (inRange f) (takenOf d p f) (refusedOf d Nanoseconds))
-    (refusedOf d FupCounter))
-
-abbrev pub fupWith : Pairing → Domain → VirtualLocalTime → Fup → FrameStep
-fupWith Waiting d t f = refusedOf d NoOpenPair
-fupWith (Open p) d t f = joinedOf d p t f
+abbrev pub fupAs : Joined → Domain → Fup → FrameStep
+fupAs (Refused refusal) d f = refusedOf d refusal
+fupAs (With p) d f =
+    takenBy
+    (updateOf (d .settings .«future_threshold») (d .settings .«past_threshold») (d .base) (newBase p f))
+    d p f
 
 abbrev pub fupOf : Domain → VirtualLocalTime → Fup → FrameStep
-fupOf d t f = fupWith (d .pairing) d t f
+fupOf d t f = fupAs (joinedOf (d .settings .«follow_up_time») (d .pairing) t f) d f

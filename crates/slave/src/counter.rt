@@ -2,7 +2,7 @@
 use clock::VirtualLocalTime;
 use domain::LastSync;
 ghost use mathlib.Core.Path.{_≡_};
-ghost use Rattle.slave.specs.Counter.{verdictOf};
+ghost use Rattle.slave.specs.Counter.{verdictOf, isGoodCounter};
 
 // What is said of a SYNC's counter: any is good, since none is known or the last is too long ago; or it
 // was judged.
@@ -36,5 +36,15 @@ pub fn judge_counter(
             }
             CounterVerdict::Good
         }
+    }
+}
+
+pub fn is_good(verdict: CounterVerdict) -> bool
+    ensures { λ r. ⌜ r ≡ isGoodCounter verdict ⌝ }
+{
+    match verdict {
+        CounterVerdict::Free => true,
+        CounterVerdict::Good => true,
+        CounterVerdict::NotGood => false,
     }
 }

@@ -2,7 +2,6 @@
 use crate::leap::leap_of;
 use crate::step::FrameAnswer;
 use crate::step::FrameStep;
-use crate::step::refused;
 use crate::sync::user_in;
 use clock::GlobalTime;
 use clock::Held;
@@ -17,55 +16,72 @@ use frame::Fup;
 use refusal::Refusal;
 use settings::UserBytes;
 ghost use mathlib.Core.Path.{_≡_};
-ghost use Rattle.slave.specs.Fup.{newBase, changeOf, updatedOf, takenOf, joinedOf, fupOf};
+ghost use Rattle.slave.specs.Fup.{newBase, joinedOf, updateOf, fupOf};
 
 // A FUP that was not refused before 7: it moves the base and closes its pair, or is refused by 7, 8, 9.
 pub fn take_fup(domain: Domain, t: VirtualLocalTime, fup: Fup) -> FrameStep
     ensures { λ r. ⌜ r ≡ fupOf domain t fup ⌝ }
 {
+    let settings = domain.settings;
     let pairing = domain.pairing;
-    match pairing {
-        Pairing::Waiting => refused(domain, Refusal::NoOpenPair),
-        Pairing::Open(pair) => join(domain, pair, t, fup),
-    }
-}
-
-fn join(domain: Domain, pair: Pair, t: VirtualLocalTime, fup: Fup) -> FrameStep
-    ensures { λ r. ⌜ r ≡ joinedOf domain pair t fup ⌝ }
-{
-    let at = pair.at;
-    let age = t.since(at);
-    if domain.settings.follow_up_time < age {
-        return refused(domain, Refusal::NoOpenPair);
-    }
-    if fup.counter != pair.counter {
-        return refused(domain, Refusal::FupCounter);
-    }
-    if GlobalTime::NANOSECONDS_MAX < fup.nanoseconds {
-        return refused(domain, Refusal::Nanoseconds);
-    }
-    take(domain, pair, fup)
-}
-
-fn take(domain: Domain, pair: Pair, fup: Fup) -> FrameStep
-    ensures { λ r. ⌜ r ≡ takenOf domain pair fup ⌝ }
-{
-    let new = new_base(pair, fup);
-    let old = domain.base;
-    match compare(old, new) {
-        Change::First => FrameStep {
-            answer: FrameAnswer::FirstTaken,
-            domain: updated(domain, pair, fup, Leap::None),
+    let base = domain.base;
+    match join(settings.follow_up_time, pairing, t, fup) {
+        Joined::Refused(refusal) => FrameStep {
+            answer: FrameAnswer::Refused(refusal),
+            domain,
         },
-        Change::By(d) => {
-            let future = domain.settings.future_threshold;
-            let past = domain.settings.past_threshold;
+        Joined::With(pair) => {
+            let future = settings.future_threshold;
+            let past = settings.past_threshold;
+            let update = update_by(future, past, base, new_base(pair, fup));
+            let last = domain.last;
+            let sending = domain.sending;
+            let protection = fup.protection;
+            let answer = update.answer;
+            let leap = update.leap;
             FrameStep {
-                answer: FrameAnswer::Updated(d),
-                domain: updated(domain, pair, fup, leap_of(future, past, d)),
+                answer,
+                domain: Domain {
+                    settings,
+                    base: Held::Set(new_base(pair, fup)),
+                    pairing: Pairing::Waiting,
+                    last,
+                    sending,
+                    number: domain.number,
+                    user: UserBytes(pair.user0, pair.user1, user_in(protection)),
+                    sgw: fup.sgw,
+                    leap,
+                    updates: next_update(domain.updates),
+                    next_counter: domain.next_counter,
+                },
             }
         }
     }
+}
+
+// What a FUP finds: its pair, or the number by which it is refused.
+pub enum Joined {
+    With(Pair),
+    Refused(Refusal),
+}
+
+fn join(follow_up_time: u64, pairing: Pairing, t: VirtualLocalTime, fup: Fup) -> Joined
+    ensures { λ r. ⌜ r ≡ joinedOf «follow_up_time» pairing t fup ⌝ }
+{
+    let Pairing::Open(pair) = pairing else {
+        return Joined::Refused(Refusal::NoOpenPair);
+    };
+    let at = pair.at;
+    if follow_up_time < t.since(at) {
+        return Joined::Refused(Refusal::NoOpenPair);
+    }
+    if fup.counter != pair.counter {
+        return Joined::Refused(Refusal::FupCounter);
+    }
+    if GlobalTime::NANOSECONDS_MAX < fup.nanoseconds {
+        return Joined::Refused(Refusal::Nanoseconds);
+    }
+    Joined::With(pair)
 }
 
 // The base that a pair and its FUP give: the SYNC's seconds plus OVS, and the nanoseconds, at T2.
@@ -77,43 +93,28 @@ fn new_base(pair: Pair, fup: Fup) -> TimeBase
     TimeBase::new(GlobalTime(seconds, fup.nanoseconds), at)
 }
 
-// What an update changes: it is the first, or it moves the time by D.
-pub enum Change {
-    First,
-    By(i64),
+// What an update says: the first one, or D and the leap it is.
+pub struct Update {
+    pub answer: FrameAnswer,
+    pub leap: Leap,
 }
 
-fn compare(old: Held, new: TimeBase) -> Change
-    ensures { λ r. ⌜ r ≡ changeOf old new ⌝ }
+fn update_by(future: u64, past: u64, old: Held, new: TimeBase) -> Update
+    ensures { λ r. ⌜ r ≡ updateOf future past old new ⌝ }
 {
     match old {
-        Held::Unset => Change::First,
+        Held::Unset => Update {
+            answer: FrameAnswer::FirstTaken,
+            leap: Leap::None,
+        },
         Held::Set(base) => {
             let time = new.time;
             let at = new.at;
-            Change::By(time.minus(base.time_at(at)))
+            let d = time.minus(base.time_at(at));
+            Update {
+                answer: FrameAnswer::Updated(d),
+                leap: leap_of(future, past, d),
+            }
         }
-    }
-}
-
-fn updated(domain: Domain, pair: Pair, fup: Fup, leap: Leap) -> Domain
-    ensures { λ r. ⌜ r ≡ updatedOf domain pair fup leap ⌝ }
-{
-    let settings = domain.settings;
-    let last = domain.last;
-    let sending = domain.sending;
-    let protection = fup.protection;
-    Domain {
-        settings,
-        base: Held::Set(new_base(pair, fup)),
-        pairing: Pairing::Waiting,
-        last,
-        sending,
-        number: domain.number,
-        user: UserBytes(pair.user0, pair.user1, user_in(protection)),
-        sgw: fup.sgw,
-        leap,
-        updates: next_update(domain.updates),
-        next_counter: domain.next_counter,
     }
 }

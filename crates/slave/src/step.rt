@@ -7,7 +7,6 @@ use frame::Frame;
 use refusal::Refusal;
 ghost use mathlib.Core.Path.{_≡_};
 ghost use Rattle.slave.specs.Step.{frameOf};
-ghost use Rattle.slave.specs.Answer.{refusedOf};
 
 // What a slave answers to a frame. D is that of the update.
 pub enum FrameAnswer {
@@ -30,20 +29,13 @@ pub fn take_frame(domain: Domain, t: VirtualLocalTime, bytes: &[u8], values: Fra
     let mode = settings.mode;
     let ids = settings.ids;
     if !mode.takes(bytes, ids) {
-        return refused(domain, Refusal::Check);
+        return FrameStep {
+            answer: FrameAnswer::Refused(Refusal::Check),
+            domain,
+        };
     }
     match values {
         Frame::Sync(sync) => take_sync(domain, t, sync),
         Frame::Fup(fup) => take_fup(domain, t, fup),
-    }
-}
-
-// A refusal: the record stays.
-pub fn refused(domain: Domain, refusal: Refusal) -> FrameStep
-    ensures { λ r. ⌜ r ≡ refusedOf domain refusal ⌝ }
-{
-    FrameStep {
-        answer: FrameAnswer::Refused(refusal),
-        domain,
     }
 }

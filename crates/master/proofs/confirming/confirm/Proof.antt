@@ -1,57 +1,48 @@
--- `master::confirming::confirm` meets its contract: each arm knows what was sent last.
+-- `master::confirming::confirm` meets its contract: each arm knows what `follow_up` found, and
+-- `protection` gives its part.
 -- Assumes nothing.
-use mathlib.Core.Path.{sym, ap, _∙_}
-use Rattle.domain.specs.declared.Sending.{Sending}
-use Rattle.master.specs.declared.confirming.ConfirmStep.{ConfirmStep}
-use Rattle.master.specs.Confirm.{confirmWith}
+use mathlib.Core.Path.{_≡_, sym, ap, _∙_}
+use Rattle.master.specs.declared.confirming.Follow.{Follow}
+use Rattle.master.specs.Confirm.{followOf, confirmAs}
 use borrow.Author.Needs.{needs}
 use Rattle.master.proofs.confirming.confirm.Statement.{statement}
 use Rattle.master.proofs.confirming.confirm.Tie as tie
 
-abbrev with-sending : tie.Start → Sending → ConfirmStep
-with-sending c s = confirmWith s (c .args .domain) (c .args .t) (c .args .counter)
+as-found :
+    (c : tie.After-follow-up) (f : Follow) → c .follow-up .result ≡ f → let a = c .before .before .args in
+    confirmAs (followOf (a .domain .settings .«confirmation_time») (a .domain .sending) (a .t) (a .counter)) (a .domain) (a .counter)
+    ≡ confirmAs f (a .domain) (a .counter)
+as-found c f e =
+    let a = c .before .before .args in
+    ap (λ (f : Follow). confirmAs f (a .domain) (a .counter)) (sym (c .follow-up .ensures) ∙ e)
 
-enum-told : tie.Need-enum-told
-enum-told c = search needs
+follow-up-requires : tie.Need-follow-up-requires
+follow-up-requires c κs = search needs
 
-refused-requires : tie.Need-refused-requires
-refused-requires c κs = search needs
+enum-known-refusal : tie.Need-enum-known-refusal
+enum-known-refusal c = search needs
 
-enum-known-sending : tie.Need-enum-known-sending
-enum-known-sending c = search needs
+enum-known-ovs : tie.Need-enum-known-ovs
+enum-known-ovs c = search needs
 
-cast-t12 : tie.Need-cast-t12
-cast-t12 c = search needs
-
-confirm-open-requires : tie.Need-confirm-open-requires
-confirm-open-requires c κs = search needs
-
-enum-told-2 : tie.Need-enum-told-2
-enum-told-2 c = search needs
-
-refused-requires-2 : tie.Need-refused-requires-2
-refused-requires-2 c κs = search needs
+protection-requires : tie.Need-protection-requires
+protection-requires c κs = search needs
 
 returns : tie.Need-returns
-returns c = c .refused .ensures ∙ sym (ap (with-sending (c .before .before .before)) (c .before .enum-told .given .1))
+returns c = sym (as-found (c .before .before .before) _ (c .before .refusal .given .1))
 
 returns-2 : tie.Need-returns-2
-returns-2 c = c .confirm-open .ensures ∙ sym (ap (with-sending (c .before .before .before .before)) (c .before .before .sending .given .1))
-
-returns-3 : tie.Need-returns-3
-returns-3 c = c .refused2 .ensures ∙ sym (ap (with-sending (c .before .before .before)) (c .before .enum-told2 .given .1))
+returns-2 c =
+    let at = c .before .before .before .before in
+    rw (c .protection .ensures) (sym (as-found (at .before .before) _ (at .ovs .given .1)))
 
 pub confirm-spec : {M : Type 1} → statement M
 confirm-spec =
     tie.close
     (tie.spec
-    enum-told
-    refused-requires
-    enum-known-sending
-    cast-t12
-    confirm-open-requires
-    enum-told-2
-    refused-requires-2
+    follow-up-requires
+    enum-known-refusal
+    enum-known-ovs
+    protection-requires
     returns
-    returns-2
-    returns-3)
+    returns-2)

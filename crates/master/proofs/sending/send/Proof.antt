@@ -1,50 +1,51 @@
--- `master::sending::send` meets its contract: each arm knows the base.
+-- `master::sending::send` meets its contract: each way knows what `due_at` answered, and
+-- `protection` gives its part.
 -- Assumes nothing.
 use mathlib.Core.Path.{_≡_, sym, ap, _∙_}
-use Rattle.clock.specs.declared.base.Held.{Held}
-use Rattle.clock.specs.declared.time.GlobalTime.{GlobalTime}
-use Rattle.master.specs.declared.sending.SendStep.{SendStep}
-use Rattle.master.specs.Send.{sendWith, sendFrom}
+use Rattle.master.specs.declared.sending.Due.{Due}
+use Rattle.master.specs.Send.{dueIn, sendAs}
 use borrow.Author.Needs.{needs}
 use Rattle.master.proofs.sending.send.Statement.{statement}
 use Rattle.master.proofs.sending.send.Tie as tie
 
-abbrev from-base : tie.Start → Held → SendStep
-from-base c b = sendFrom b (c .args .domain) (c .args .t)
+as-told :
+    (c : tie.After-due-at) (due : Due) → c .due-at .result ≡ due → let a = c .before .before .args in
+    sendAs (dueIn (a .domain) (a .t)) (a .domain) (a .t) ≡ sendAs due (a .domain) (a .t)
+as-told c due e =
+    let a = c .before .before .args in
+    ap (λ (due : Due). sendAs due (a .domain) (a .t)) (sym (c .due-at .ensures) ∙ e)
+
+due-at-requires : tie.Need-due-at-requires
+due-at-requires c κs = search needs
+
+enum-known-seconds : tie.Need-enum-known-seconds
+enum-known-seconds c = search needs
 
 enum-told : tie.Need-enum-told
 enum-told c = search needs
 
-rest-requires : tie.Need-rest-requires
-rest-requires c κs = search needs
-
-enum-known-base : tie.Need-enum-known-base
-enum-known-base c = search needs
-
-time-at-requires : tie.Need-time-at-requires
-time-at-requires c κs = search needs
-
-send-with-requires : tie.Need-send-with-requires
-send-with-requires c κs = search needs
-
 returns : tie.Need-returns
-returns c = c .rest .ensures ∙ sym (ap (from-base (c .before .before .before)) (c .before .enum-told .given .1))
+returns c = sym (as-told (c .before .before) _ (c .enum-told .given .1))
+
+protection-requires : tie.Need-protection-requires
+protection-requires c κs = search needs
+
+add-t22 : tie.Need-add-t22
+add-t22 c = search needs
 
 returns-2 : tie.Need-returns-2
 returns-2 c =
-    let start = c .before .before .before .before .before in
-    c .send-with .ensures
-    ∙ ap (λ (g : GlobalTime). sendWith (start .args .domain) g (start .args .t)) (c .before .time-at .ensures)
-    ∙ sym (ap (from-base start) (c .before .before .before .base .given .1))
+    let at = c .before .before .before .before in
+    rw (c .protection .ensures) (sym (as-told (at .before .before .before) _ (at .before .seconds .given .1)))
 
 pub send-spec : {M : Type 1} → statement M
 send-spec =
     tie.close
     (tie.spec
+    due-at-requires
+    enum-known-seconds
     enum-told
-    rest-requires
-    enum-known-base
-    time-at-requires
-    send-with-requires
     returns
+    protection-requires
+    add-t22
     returns-2)

@@ -1,4 +1,5 @@
--- `master::setting::set_time` meets its contract: the test is the definition's.
+-- `master::setting::set_time` meets its contract: the test is the definition's, and the callees
+-- ensure the parts.
 -- Assumes nothing.
 use borrow.Author.Tests.{le-leb, lt-leb}
 use borrow.Author.Needs.{needs}
@@ -8,11 +9,14 @@ use Rattle.master.proofs.setting.set_time.Tie as tie
 returns : tie.Need-returns
 returns c = rw (lt-leb _ _ (c .if1 .taken))
 
-with-time-requires : tie.Need-with-time-requires
-with-time-requires c κs = search needs
+new-requires : tie.Need-new-requires
+new-requires c κs = search needs
+
+next-update-requires : tie.Need-next-update-requires
+next-update-requires c κs = search needs
 
 returns-2 : tie.Need-returns-2
-returns-2 c = rw (le-leb _ _ (c .before .if1 .left), c .with-time .ensures)
+returns-2 c = rw (le-leb _ _ (c .before .before .before .before .if1 .left), c .before .new .ensures, c .next-update .ensures)
 
 pub set-time-spec : {M : Type 1} → statement M
-set-time-spec = tie.close (tie.spec returns with-time-requires returns-2)
+set-time-spec = tie.close (tie.spec returns new-requires next-update-requires returns-2)

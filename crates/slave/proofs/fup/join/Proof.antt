@@ -6,62 +6,66 @@ use borrow.Author.Needs.{needs}
 use Rattle.slave.proofs.fup.join.Statement.{statement}
 use Rattle.slave.proofs.fup.join.Tie as tie
 
+enum-known-pairing : tie.Need-enum-known-pairing
+enum-known-pairing c = search needs
+
+enum-told : tie.Need-enum-told
+enum-told c = search needs
+
+returns : tie.Need-returns
+returns c = rw (c .enum-told .given .1)
+
 since-requires : tie.Need-since-requires
 since-requires c κs = search needs
 
-refused-requires : tie.Need-refused-requires
-refused-requires c κs = search needs
-
-returns : tie.Need-returns
-returns c = rw (lt-ltb _ _ (rw (c .before .before .before .since .ensures) at (c .before .if1 .taken))) (c .refused .ensures)
-
-refused-requires-2 : tie.Need-refused-requires-2
-refused-requires-2 c κs = search needs
-
 returns-2 : tie.Need-returns-2
 returns-2 c =
-    let at = c .before .before .before .before in
-    rw (le-ltb _ _ (rw (at .before .before .since .ensures) at (at .if1 .left)), ne-eqb _ _ (c .before .if2 .taken))
-    (c .refused2 .ensures)
-
-refused-requires-3 : tie.Need-refused-requires-3
-refused-requires-3 c κs = search needs
+    let at = c .before in
+    rw (at .before .before .before .pairing .given .1, lt-ltb _ _ (rw (at .since .ensures) at (c .if1 .taken)))
 
 returns-3 : tie.Need-returns-3
 returns-3 c =
-    let same = c .before .before .before in
-    let at = same .before .before .before in
+    let young = c .before .before .before in
+    let at = young .before in
     rw (
-      le-ltb _ _ (rw (at .before .before .since .ensures) at (at .if1 .left)),
-      eq-eqb _ _ (same .if2 .left),
-      lt-leb _ _ (c .before .if3 .taken),
+      at .before .before .before .pairing .given .1,
+      le-ltb _ _ (rw (at .since .ensures) at (young .if1 .left)),
+      ne-eqb _ _ (c .if2 .taken),
     )
-    (c .refused3 .ensures)
-
-take-requires : tie.Need-take-requires
-take-requires c κs = search needs
 
 returns-4 : tie.Need-returns-4
 returns-4 c =
-    let same = c .before .before .before in
-    let at = same .before .before .before in
+    let same = c .before .before in
+    let young = same .before .before .before in
+    let at = young .before in
     rw (
-      le-ltb _ _ (rw (at .before .before .since .ensures) at (at .if1 .left)),
+      at .before .before .before .pairing .given .1,
+      le-ltb _ _ (rw (at .since .ensures) at (young .if1 .left)),
       eq-eqb _ _ (same .if2 .left),
-      le-leb _ _ (c .before .if3 .left),
+      lt-leb _ _ (c .if3 .taken),
     )
-    (c .take .ensures)
+
+returns-5 : tie.Need-returns-5
+returns-5 c =
+    let same = c .before .before in
+    let young = same .before .before .before in
+    let at = young .before in
+    rw (
+      at .before .before .before .pairing .given .1,
+      le-ltb _ _ (rw (at .since .ensures) at (young .if1 .left)),
+      eq-eqb _ _ (same .if2 .left),
+      le-leb _ _ (c .if3 .left),
+    )
 
 pub join-spec : {M : Type 1} → statement M
 join-spec =
     tie.close
     (tie.spec
-    since-requires
-    refused-requires
+    enum-known-pairing
+    enum-told
     returns
-    refused-requires-2
+    since-requires
     returns-2
-    refused-requires-3
     returns-3
-    take-requires
-    returns-4)
+    returns-4
+    returns-5)

@@ -10,11 +10,8 @@ use Rattle.slave.proofs.step.take_frame.Tie as tie
 takes-requires : tie.Need-takes-requires
 takes-requires c κs = search needs
 
-refused-requires : tie.Need-refused-requires
-refused-requires c κs = search needs
-
 returns : tie.Need-returns
-returns c = rw (sym (c .before .before .takes .ensures) ∙ not-true _ (c .before .if1 .taken)) (c .refused .ensures)
+returns c = rw (sym (c .before .takes .ensures) ∙ not-true _ (c .if1 .taken))
 
 enum-known-values : tie.Need-enum-known-values
 enum-known-values c = search needs
@@ -45,7 +42,6 @@ take-frame-spec =
     tie.close
     (tie.spec
     takes-requires
-    refused-requires
     returns
     enum-known-values
     take-sync-requires

@@ -1,7 +1,8 @@
--- `slave::sync::take_sync` meets its contract: each arm knows the verdict on the counter.
+-- `slave::sync::take_sync` meets its contract: the verdict on the counter decides, and `pair_of`
+-- gives the pair.
 -- Assumes nothing.
 use mathlib.Core.Path.{_≡_, sym, ap, _∙_}
-use Rattle.slave.specs.declared.counter.CounterVerdict.{CounterVerdict}
+use borrow.Author.Tests.{not-true, not-false}
 use Rattle.slave.specs.Counter.{isGoodCounter}
 use Rattle.slave.specs.Sync.{takesSync}
 use borrow.Author.Needs.{needs}
@@ -9,51 +10,25 @@ use Rattle.slave.proofs.sync.take_sync.Statement.{statement}
 use Rattle.slave.proofs.sync.take_sync.Tie as tie
 
 told :
-    (c : tie.After-judge-counter) (v : CounterVerdict) → c .judge-counter .result ≡ v →
-    let a = c .before .args in takesSync (a .domain) (a .t) (a .sync) ≡ isGoodCounter v
-told c v e = ap isGoodCounter (sym (c .judge-counter .ensures) ∙ e)
+    (c : tie.After-is-good) → let a = c .before .before .before .args in
+    takesSync (a .domain) (a .t) (a .sync) ≡ c .is-good .result
+told c = sym (c .is-good .ensures ∙ ap isGoodCounter (c .before .judge-counter .ensures))
 
 judge-counter-requires : tie.Need-judge-counter-requires
 judge-counter-requires c κs = search needs
 
-enum-told : tie.Need-enum-told
-enum-told c = search needs
-
-refused-requires : tie.Need-refused-requires
-refused-requires c κs = search needs
-
-enum-told-2 : tie.Need-enum-told-2
-enum-told-2 c = search needs
-
-accept-requires : tie.Need-accept-requires
-accept-requires c κs = search needs
-
-enum-told-3 : tie.Need-enum-told-3
-enum-told-3 c = search needs
-
-accept-requires-2 : tie.Need-accept-requires-2
-accept-requires-2 c κs = search needs
+is-good-requires : tie.Need-is-good-requires
+is-good-requires c κs = search needs
 
 returns : tie.Need-returns
-returns c = rw (told (c .before .before .before) _ (c .before .enum-told .given .1)) (c .refused .ensures)
+returns c = rw (told (c .before) ∙ not-true _ (c .if1 .taken))
+
+pair-of-requires : tie.Need-pair-of-requires
+pair-of-requires c κs = search needs
 
 returns-2 : tie.Need-returns-2
-returns-2 c = rw (told (c .before .before .before) _ (c .before .enum-told2 .given .1)) (c .accept .ensures)
-
-returns-3 : tie.Need-returns-3
-returns-3 c = rw (told (c .before .before .before) _ (c .before .enum-told3 .given .1)) (c .accept2 .ensures)
+returns-2 c = rw (told (c .before .before .before) ∙ not-false _ (c .before .before .if1 .left), c .pair-of .ensures)
 
 pub take-sync-spec : {M : Type 1} → statement M
 take-sync-spec =
-    tie.close
-    (tie.spec
-    judge-counter-requires
-    enum-told
-    refused-requires
-    enum-told-2
-    accept-requires
-    enum-told-3
-    accept-requires-2
-    returns
-    returns-2
-    returns-3)
+    tie.close (tie.spec judge-counter-requires is-good-requires returns pair-of-requires returns-2)
