@@ -4,42 +4,33 @@
 --   rest-keeps              and so does a domain's turn in which it is not due
 --   set-keeps-sending       a set touches no SYNC, neither an open one nor when the last was sent
 --   confirm-closes          a confirmation that is not refused leaves no SYNC open
---   due-fits                a due domain's seconds have 32 bits
 --   counter-exact           on a counter below 16 the next one is one more, modulo 16
---   whole-exact             the whole time is the SYNC's time and the reading's advance, to the nanosecond
---   ovs-bound               OVS is at most 3 where C is in range and the SYNC's time is good
 -- Assumes nothing.
-use Prim.Native.Nat.{ℕ, _+_, _%_, _≤_, _<_}
+use Prim.Native.Nat.{ℕ, _+_, _%_, _<_}
 use mathlib.Core.Path.{_≡_, refl}
-use mathlib.Core.Bool.{Bool, true, false, _&&_}
 use native.Mathlib.Nat.{mod-eq-of-lt}
 use native.Mathlib.Omega.{arith}
 use lib.Dec.{leb}
-use borrow.Author.Tests.{leb-true}
 use Rattle.promise.proofs.Laws.{either}
 use Rattle.clock.specs.declared.reading.VirtualLocalTime.{VirtualLocalTime}
-use Rattle.clock.specs.declared.time.GlobalTime.{GlobalTime}
-use Rattle.clock.specs.Reading.{spanOf}
-use Rattle.clock.specs.Time.{nanosecondsOf, IsSet}
-use Rattle.clock.proofs.Laws.{advance-exact}
 use Rattle.refusal.specs.declared.Refusal.{Refusal}
-use Rattle.settings.specs.declared.domain_settings.Role.{Role}
 use Rattle.domain.specs.declared.Domain.{Domain}
 use Rattle.domain.specs.declared.Sending.{Sending}
 use Rattle.domain.specs.declared.Sending.the-variants.{Never, Open, Confirmed}
 use Rattle.master.specs.declared.setting.SetAnswer.the-variants.{Refused as set-refused}
 use Rattle.master.specs.declared.setting.SetStep.{SetStep}
-use Rattle.master.specs.declared.sending.Due.{Due}
-use Rattle.master.specs.declared.sending.Due.the-variants.{At, No}
+use Rattle.master_rules.specs.declared.due.Due.{Due}
+use Rattle.master_rules.specs.declared.due.Due.the-variants.{At, No}
 use Rattle.master.specs.declared.sending.SendAnswer.the-variants.{NotDue}
 use Rattle.master.specs.declared.sending.SendStep.{SendStep}
-use Rattle.master.specs.declared.confirming.Follow.{Follow}
-use Rattle.master.specs.declared.confirming.Follow.the-variants.{With, Refused as refused}
+use Rattle.master_rules.specs.declared.follow.Follow.{Follow}
+use Rattle.master_rules.specs.declared.follow.Follow.the-variants.{With, Refused as refused}
 use Rattle.master.specs.declared.confirming.ConfirmAnswer.the-variants.{Refused}
 use Rattle.master.specs.declared.confirming.ConfirmStep.{ConfirmStep}
 use Rattle.master.specs.Set.{setOf}
-use Rattle.master.specs.Send.{dueWith, dueIn, sendAs, sendOf}
-use Rattle.master.specs.Confirm.{confirmNumber, isOpenFor, wholeOf, ovsOf, followOf, confirmAs, confirmOf}
+use Rattle.master.specs.Send.{dueIn, sendAs, sendOf}
+use Rattle.master_rules.specs.Follow.{isOpenFor, ovsOf, followOf}
+use Rattle.master.specs.Confirm.{confirmNumber, confirmAs, confirmOf}
 
 -- ---- a refusal keeps the record
 
@@ -102,23 +93,7 @@ confirm-closes d t counter = by-sending (d .sending)
         (λ e. absurd (omega arith))
     by-sending (Confirmed at) = λ e. absurd (omega arith)
 
--- ---- bounds
-
-first : (a b c : Bool) → (a && b && c) ≡ true → a ≡ true
-first true b c e = refl
-first false b c e = e
-
-pub due-fits :
-    (role : Role) (p : ℕ) (g : GlobalTime) (s : Sending) (t : VirtualLocalTime) →
-    dueWith role p g s t ≡ true → g .0 ≤ 4294967295
-due-fits role p g s t e = leb-true _ _ (first _ _ _ e)
+-- ---- the counter
 
 pub counter-exact : (counter : ℕ) → counter < 16 → (counter % 16 + 1) % 16 ≡ (counter + 1) % 16
 counter-exact counter h = rw (mod-eq-of-lt h)
-
-module _ (g : GlobalTime) (at t : VirtualLocalTime) (good : IsSet g) (fresh : spanOf at t ≤ 3000000000) where
-  pub whole-exact : nanosecondsOf (wholeOf g at t) ≡ nanosecondsOf g + spanOf at t
-  whole-exact = advance-exact g (spanOf at t) (omega arith)
-
-  pub ovs-bound : ovsOf g at t ≤ 3
-  ovs-bound = omega arith

@@ -1,48 +1,21 @@
 -- Paper 01, "A master's domain": confirmation. Assumes nothing.
-use Prim.Native.Nat.{ℕ, _-_}
-use mathlib.Core.Bool.{Bool, false, cond, _&&_}
-use lib.Dec.{leb, eqb}
+use Prim.Native.Nat.{ℕ}
+use mathlib.Core.Bool.{false}
 use Rattle.clock.specs.declared.reading.VirtualLocalTime.{VirtualLocalTime}
-use Rattle.clock.specs.declared.time.GlobalTime.{GlobalTime}
-use Rattle.clock.specs.Reading.{spanOf}
-use Rattle.clock.specs.Time.{advanced}
-use Rattle.refusal.specs.declared.Refusal.the-variants.{NoOpenSync, Ovs}
 use Rattle.refusal.specs.Numbers.{numberOf}
 use Rattle.domain.specs.declared.Domain.{Domain}
-use Rattle.domain.specs.declared.Sending.{Sending}
-use Rattle.domain.specs.declared.Sending.the-variants.{Never, Open, Confirmed}
-use Rattle.master.specs.declared.confirming.Follow.{Follow}
-use Rattle.master.specs.declared.confirming.Follow.the-variants.{With, Refused as refused}
+use Rattle.domain.specs.declared.Sending.the-variants.{Confirmed}
+use Rattle.master_rules.specs.declared.follow.Follow.{Follow}
+use Rattle.master_rules.specs.declared.follow.Follow.the-variants.{With, Refused as refused}
 use Rattle.master.specs.declared.confirming.ConfirmAnswer.{ConfirmAnswer}
 use Rattle.master.specs.declared.confirming.ConfirmAnswer.the-variants.{Followed, Refused}
 use Rattle.master.specs.declared.confirming.ConfirmStep.{ConfirmStep}
-use Rattle.master.specs.Send.{protectionOf}
+use Rattle.master_rules.specs.Sent.{protectionOf}
+use Rattle.master_rules.specs.Follow.{followOf}
 
 abbrev pub confirmNumber : ConfirmAnswer → ℕ
 confirmNumber (Followed f) = 0
 confirmNumber (Refused refusal) = numberOf refusal
-
--- ---- "the open SYNC must have that counter and be at most C old": 11
-abbrev pub isOpenFor : (c sent : ℕ) → VirtualLocalTime → VirtualLocalTime → ℕ → Bool
-isOpenFor c sent at t counter = eqb sent counter && leb (spanOf at t) c
-
--- ---- "The whole time is the SYNC's time plus the reading's advance." "as OVS the whole seconds beyond
--- those sent"; 13 "OVS above 3"
-abbrev pub wholeOf : GlobalTime → VirtualLocalTime → VirtualLocalTime → GlobalTime
-wholeOf g at t = advanced g (spanOf at t)
-
-abbrev pub ovsOf : GlobalTime → VirtualLocalTime → VirtualLocalTime → ℕ
-ovsOf g at t = wholeOf g at t .0 - g .0
-
-abbrev pub followFrom : GlobalTime → VirtualLocalTime → VirtualLocalTime → Follow
-followFrom g at t = cond (leb (ovsOf g at t) 3) (With (ovsOf g at t) (wholeOf g at t .1) at) (refused Ovs)
-
-abbrev pub followOf : (c : ℕ) → Sending → VirtualLocalTime → ℕ → Follow
-followOf c Never t counter = refused NoOpenSync
-followOf c (Open sent seconds nanoseconds at) t counter =
-    cond (isOpenFor c sent at t counter) (followFrom (record { 0 = seconds; 1 = nanoseconds }) at t)
-    (refused NoOpenSync)
-followOf c (Confirmed at) t counter = refused NoOpenSync
 
 -- ---- "The FUP carries the same counter, SGW 0, as OVS the whole seconds beyond those sent, and the
 -- nanoseconds. The SYNC is then no longer open."

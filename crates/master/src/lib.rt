@@ -1,6 +1,7 @@
 // The steps of a master's domain (paper 01, "A master's domain"), on one record by value: set, due and
 // send, confirm. A step answers, and gives the record back: as it was where it refuses or is not due.
-// Frames are answered as values; whoever has the buffer writes them. Only `send` looks at the role.
+// Frames are answered as values; whoever has the buffer writes them. Only `send` looks at the role. The
+// rules that a step goes by are those of `master_rules`.
 mod confirming;
 mod sending;
 mod setting;

@@ -1,15 +1,13 @@
 // A SYNC from a master's record (paper 01, "A master's domain"): when it is due, and sending it.
-use clock::GlobalTime;
-use clock::Held;
 use clock::VirtualLocalTime;
 use domain::Domain;
 use domain::Sending;
-use frame::Protection;
 use frame::Sync;
-use settings::Role;
-use settings::Security;
+use master_rules::Due;
+use master_rules::due_at;
+use master_rules::protection;
 ghost use mathlib.Core.Path.{_≡_};
-ghost use Rattle.master.specs.Send.{isMaster, hasWaited, dueOf, isDue, protectionOf, sendOf};
+ghost use Rattle.master.specs.Send.{isDue, sendOf};
 
 // What a domain's turn in a main cycle gives.
 pub enum SendAnswer {
@@ -90,68 +88,5 @@ pub fn send(domain: Domain, t: VirtualLocalTime) -> SendStep
             updates: domain.updates,
             next_counter: (counter + 1) % 16,
         },
-    }
-}
-
-// Whether a domain is due, with the time that its SYNC then has.
-pub enum Due {
-    At { seconds: u32, nanoseconds: u32 },
-    No,
-}
-
-fn due_at(role: Role, period: u64, base: Held, sending: Sending, t: VirtualLocalTime) -> Due
-    ensures { λ r. ⌜ r ≡ dueOf role period base sending t ⌝ }
-{
-    let Held::Set(set) = base else {
-        return Due::No;
-    };
-    let time = set.time_at(t);
-    if GlobalTime::SET_SECONDS_MAX < time.0 {
-        return Due::No;
-    }
-    if !is_master(role) {
-        return Due::No;
-    }
-    if !has_waited(period, sending, t) {
-        return Due::No;
-    }
-    Due::At {
-        seconds: time.0 as u32,
-        nanoseconds: time.1,
-    }
-}
-
-fn is_master(role: Role) -> bool
-    ensures { λ r. ⌜ r ≡ isMaster role ⌝ }
-{
-    match role {
-        Role::Absent => false,
-        Role::Slave => false,
-        Role::Master => true,
-    }
-}
-
-fn has_waited(period: u64, sending: Sending, t: VirtualLocalTime) -> bool
-    ensures { λ r. ⌜ r ≡ hasWaited period sending t ⌝ }
-{
-    match sending {
-        Sending::Never => true,
-        Sending::Open {
-            counter: _,
-            seconds: _,
-            nanoseconds: _,
-            at,
-        } => period <= t.since(at),
-        Sending::Confirmed(at) => period <= t.since(at),
-    }
-}
-
-// How a frame goes out, with the user byte that only a plain one carries.
-pub fn protection(security: Security, user: u8) -> Protection
-    ensures { λ r. ⌜ r ≡ protectionOf security user ⌝ }
-{
-    match security {
-        Security::Plain => Protection::Plain(user),
-        Security::Secured => Protection::Secured,
     }
 }

@@ -47,7 +47,7 @@ pub fn ends() {
     at_ends(slave(1, 1, 2));
     at_ends(master(1_000_000, 1_000_000));
     at_ends(master(1_000_000, 999_999));
-    at_ends(absent());
+    node(16, 15, absent());
 }
 
 // ---- the lines

@@ -1,26 +1,18 @@
 -- Laws of a slave's steps. No contract cites this file.
---   step-exact             on counters of a frame, the step is (new + 16 - last) modulo 16
 --   refusal-keeps-sync     a refused SYNC leaves the record as it was
 --   refusal-keeps-fup      so does a refused FUP
 --   refusal-keeps-frame    and a refused frame
 --   sync-keeps-base        a SYNC does not move the base, taken or refused
 --   fup-closes             a FUP that is not refused leaves no pair open
---   leap-exclusive         no D is a leap into the future and into the past
---   received-bound         a base from a pair and a FUP is at most what the paper allows
 -- Assumes nothing.
-use Prim.Native.Nat.{ℕ, _+_, _-_, _%_, _≤_, _<_}
+use Prim.Native.Nat.{ℕ}
 use mathlib.Core.Path.{_≡_, refl}
-use mathlib.Core.Bool.{Bool, true, false, not, _&&_}
 use mathlib.Core.List.{List}
-use native.Mathlib.Nat.{mod-eq-of-lt}
 use native.Mathlib.Omega.{arith}
-use lib.Dec.{eqb}
-use lib.IntN.{ℤ, pos, negsuc}
 use Rattle.promise.proofs.Laws.{either}
 use Rattle.clock.specs.declared.reading.VirtualLocalTime.{VirtualLocalTime}
 use Rattle.clock.specs.declared.base.Held.{Held}
 use Rattle.clock.specs.declared.base.Held.the-variants.{Unset, Set}
-use Rattle.clock.specs.Time.{IsReceived}
 use Rattle.frame.specs.declared.values.Sync.{Sync}
 use Rattle.frame.specs.declared.values.Fup.{Fup}
 use Rattle.frame.specs.declared.values.Frame.{Frame}
@@ -28,22 +20,18 @@ use Rattle.frame.specs.declared.values.Frame.the-variants.{Sync as sync, Fup as
 use Rattle.frame.specs.Check.{isGood}
 use Rattle.refusal.specs.declared.Refusal.{Refusal}
 use Rattle.domain.specs.declared.Domain.{Domain}
-use Rattle.domain.specs.declared.Pair.{Pair}
 use Rattle.domain.specs.declared.Pairing.{Pairing}
 use Rattle.domain.specs.declared.Pairing.the-variants.{Waiting, Open}
-use Rattle.slave.specs.declared.step.FrameAnswer.the-variants.{Refused as refused}
-use Rattle.slave.specs.declared.fup.Joined.{Joined}
-use Rattle.slave.specs.declared.fup.Joined.the-variants.{With, Refused}
+use Rattle.slave_rules.specs.declared.answer.FrameAnswer.the-variants.{Refused as refused}
+use Rattle.slave_rules.specs.declared.joining.Joined.{Joined}
+use Rattle.slave_rules.specs.declared.joining.Joined.the-variants.{With, Refused}
 use Rattle.slave.specs.declared.step.FrameStep.{FrameStep}
-use Rattle.slave.specs.Answer.{frameNumber}
-use Rattle.slave.specs.Counter.{stepOf}
+use Rattle.slave_rules.specs.Answer.{frameNumber}
 use Rattle.slave.specs.Sync.{takesSync, syncOf}
-use Rattle.slave.specs.Leap.{isFuture, isPast}
-use Rattle.slave.specs.Fup.{newBase, isOld, isOfPair, inRange, joinedOf, updateOf, takenBy, fupAs, fupOf}
+use Rattle.slave_rules.specs.Join.{isOld, isOther, isAbove, joinedOf}
+use Rattle.slave_rules.specs.Update.{newBase, updateOf}
+use Rattle.slave.specs.Fup.{takenBy, fupAs, fupOf}
 use Rattle.slave.specs.Step.{kindOf, frameOf}
-
-pub step-exact : (last new : ℕ) → last < 16 → new < 16 → stepOf last new ≡ (new + 16 - last) % 16
-step-exact last new p q = rw (mod-eq-of-lt q, mod-eq-of-lt p)
 
 -- ---- a refusal keeps the record
 
@@ -95,22 +83,5 @@ fup-closes d t f = closes (d .pairing)
     closes Waiting = λ e. absurd (omega arith)
     closes (Open p) =
         either Closed (isOld l p t) (λ e. absurd (omega arith))
-        (either Closed (isOfPair p f) (either Closed (inRange f) (λ e. refl) (λ e. absurd (omega arith)))
-        (λ e. absurd (omega arith)))
-
-pub received-bound :
-    (p : Pair) (f : Fup) → p .seconds ≤ 4294967295 → f .ovs ≤ 3 → f .nanoseconds ≤ 999999999 →
-    IsReceived (newBase p f .time)
-received-bound p f hs ho hn = omega arith
-
--- ---- leaps
-
-and-false : (b : Bool) → (b && false) ≡ false
-and-false true = refl
-and-false false = refl
-
-pub leap-exclusive : (future past : ℕ) (d : ℤ) → isFuture future d ≡ true → isPast past d ≡ false
-leap-exclusive future past (pos m) e = and-false (not (eqb past 0))
-leap-exclusive future past (negsuc m) e =
-    let no = and-false (not (eqb future 0)) in
-    cc
+        (either Closed (isOther p f) (λ e. absurd (omega arith))
+        (either Closed (isAbove f) (λ e. absurd (omega arith)) (λ e. refl)))

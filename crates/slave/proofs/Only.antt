@@ -4,7 +4,6 @@
 use Prim.Native.Nat.{ℕ}
 use mathlib.Core.Path.{_≡_}
 use mathlib.Core.List.{List}
-use lib.IntN.{ℤ}
 use Rattle.promise.specs.Only.{OnlyOne}
 use Rattle.promise.proofs.Laws.{equation-only}
 use Rattle.clock.specs.declared.reading.VirtualLocalTime.{VirtualLocalTime}
@@ -12,27 +11,14 @@ use Rattle.frame.specs.declared.values.Sync.{Sync}
 use Rattle.frame.specs.declared.values.Fup.{Fup}
 use Rattle.frame.specs.declared.values.Frame.{Frame}
 use Rattle.domain.specs.declared.Domain.{Domain}
-use Rattle.domain.specs.declared.LastSync.{LastSync}
-use Rattle.domain.specs.declared.Leap.{Leap}
-use Rattle.slave.specs.declared.counter.CounterVerdict.{CounterVerdict}
 use Rattle.slave.specs.declared.step.FrameStep.{FrameStep}
-use Rattle.slave.specs.Counter.{verdictOf}
 use Rattle.slave.specs.Sync.{syncOf}
-use Rattle.slave.specs.Leap.{leapOf}
 use Rattle.slave.specs.Fup.{fupOf}
 use Rattle.slave.specs.Step.{frameOf}
 use Rattle.slave.specs.Status.{statusOf}
 
-pub judge-counter-only :
-    (j l : ℕ) (last : LastSync) (new : ℕ) (t : VirtualLocalTime) →
-    OnlyOne (λ (r : CounterVerdict). r ≡ verdictOf j l last new t)
-judge-counter-only j l last new t = equation-only _
-
 pub take-sync-only : (d : Domain) (t : VirtualLocalTime) (s : Sync) → OnlyOne (λ (r : FrameStep). r ≡ syncOf d t s)
 take-sync-only d t s = equation-only _
-
-pub leap-of-only : (future past : ℕ) (d : ℤ) → OnlyOne (λ (r : Leap). r ≡ leapOf future past d)
-leap-of-only future past d = equation-only _
 
 pub take-fup-only : (d : Domain) (t : VirtualLocalTime) (f : Fup) → OnlyOne (λ (r : FrameStep). r ≡ fupOf d t f)
 take-fup-only d t f = equation-only _

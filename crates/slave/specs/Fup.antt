@@ -1,63 +1,20 @@
 -- Paper 01, "A slave's domain": FUP. Assumes nothing.
-use Prim.Native.Nat.{ℕ, _+_}
-use mathlib.Core.Bool.{Bool, cond}
-use lib.Dec.{ltb, leb, eqb}
-use lib.IntN.{ℤ}
 use Rattle.clock.specs.declared.reading.VirtualLocalTime.{VirtualLocalTime}
-use Rattle.clock.specs.declared.base.TimeBase.{TimeBase}
-use Rattle.clock.specs.declared.base.Held.{Held}
-use Rattle.clock.specs.declared.base.Held.the-variants.{Unset, Set}
-use Rattle.clock.specs.Reading.{spanOf}
-use Rattle.clock.specs.Time.{differenceOf}
-use Rattle.clock.specs.Base.{baseOf, timeAt}
+use Rattle.clock.specs.declared.base.Held.the-variants.{Set}
 use Rattle.frame.specs.declared.values.Fup.{Fup}
-use Rattle.refusal.specs.declared.Refusal.the-variants.{NoOpenPair, FupCounter, Nanoseconds}
 use Rattle.domain.specs.declared.Domain.{Domain}
 use Rattle.domain.specs.Updates.{nextUpdate}
 use Rattle.domain.specs.declared.Pair.{Pair}
-use Rattle.domain.specs.declared.Pairing.{Pairing}
-use Rattle.domain.specs.declared.Pairing.the-variants.{Waiting, Open}
+use Rattle.domain.specs.declared.Pairing.the-variants.{Waiting}
 use Rattle.domain.specs.declared.Leap.{Leap}
-use Rattle.domain.specs.declared.Leap.the-variants.{None}
-use Rattle.slave.specs.declared.fup.Joined.{Joined}
-use Rattle.slave.specs.declared.fup.Joined.the-variants.{With, Refused}
-use Rattle.slave.specs.declared.fup.Update.{Update}
-use Rattle.slave.specs.declared.step.FrameAnswer.the-variants.{FirstTaken, Updated}
+use Rattle.slave_rules.specs.declared.joining.Joined.{Joined}
+use Rattle.slave_rules.specs.declared.joining.Joined.the-variants.{With, Refused}
+use Rattle.slave_rules.specs.declared.update.Update.{Update}
 use Rattle.slave.specs.declared.step.FrameStep.{FrameStep}
+use Rattle.slave_rules.specs.Join.{joinedOf}
+use Rattle.slave_rules.specs.Update.{newBase, updateOf}
 use Rattle.slave.specs.Answer.{refusedOf}
-use Rattle.slave.specs.Leap.{leapOf}
-use Rattle.slave.specs.User.{userIn}
-
--- ---- "The base then holds seconds plus OVS, and the nanoseconds, at T2."
-abbrev pub newBase : Pair → Fup → TimeBase
-newBase p f = baseOf (record { 0 = p .seconds + f .ovs; 1 = f .nanoseconds }) (p .at)
-
--- ---- "a pair must be open", and one "older than F counts as not open"; "the counter must be the
--- pair's, the nanoseconds must be in range": 7, 8, 9
-abbrev pub isOld : (f : ℕ) → Pair → VirtualLocalTime → Bool
-isOld f p t = ltb f (spanOf (p .at) t)
-
-abbrev pub isOfPair : Pair → Fup → Bool
-isOfPair p fup = eqb (fup .counter) (p .counter)
-
-abbrev pub inRange : Fup → Bool
-inRange fup = leb (fup .nanoseconds) 999999999
-
-abbrev pub joinedOf : (f : ℕ) → Pairing → VirtualLocalTime → Fup → Joined
-joinedOf f Waiting t fup = Refused NoOpenPair
-joinedOf f (Open p) t fup =
-    cond (isOld f p t) (Refused NoOpenPair)
-    (cond (isOfPair p fup) (cond (inRange fup) (With p) (Refused Nanoseconds)) (Refused FupCounter))
-
--- ---- "On each update of a set base let D be the new time minus the old base's time, both at the new
--- T2." "The first update clears both."
-abbrev pub movedBy : TimeBase → TimeBase → ℤ
-movedBy old new = differenceOf (new .time) (timeAt old (new .at))
-
-abbrev pub updateOf : (future past : ℕ) → Held → TimeBase → Update
-updateOf future past Unset new = record { answer = FirstTaken; leap = None }
-updateOf future past (Set old) new =
-    record { answer = Updated (movedBy old new); leap = leapOf future past (movedBy old new) }
+use Rattle.slave_rules.specs.Pair.{userIn}
 
 -- ---- "The pair closes. The update counter rises by 1, from 255 to 0. The user bytes and SGW are
 -- stored; one that the frame kind doesn't carry reads 0."

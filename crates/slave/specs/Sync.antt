@@ -4,25 +4,13 @@ use Rattle.clock.specs.declared.reading.VirtualLocalTime.{VirtualLocalTime}
 use Rattle.frame.specs.declared.values.Sync.{Sync}
 use Rattle.refusal.specs.declared.Refusal.the-variants.{SyncCounter}
 use Rattle.domain.specs.declared.Domain.{Domain}
-use Rattle.domain.specs.declared.Pair.{Pair}
 use Rattle.domain.specs.declared.Pairing.the-variants.{Open}
 use Rattle.domain.specs.declared.LastSync.the-variants.{Seen}
-use Rattle.slave.specs.declared.step.FrameAnswer.the-variants.{SyncTaken}
+use Rattle.slave_rules.specs.declared.answer.FrameAnswer.the-variants.{SyncTaken}
 use Rattle.slave.specs.declared.step.FrameStep.{FrameStep}
+use Rattle.slave_rules.specs.Counter.{verdictOf, isGoodCounter}
+use Rattle.slave_rules.specs.Pair.{pairOf}
 use Rattle.slave.specs.Answer.{refusedOf}
-use Rattle.slave.specs.Counter.{verdictOf, isGoodCounter}
-use Rattle.slave.specs.User.{userIn}
-
--- ---- "an open pair that carries the SYNC's counter, seconds, user bytes and reading T2"
-abbrev pub pairOf : VirtualLocalTime → Sync → Pair
-pairOf t s =
-    record {
-      at = t;
-      seconds = s .seconds;
-      counter = s .counter;
-      user0 = s .user0;
-      user1 = userIn (s .protection);
-    }
 
 -- ---- "An accepted SYNC opens a pair with T2 = t, in place of one already open, and becomes the last.
 -- It does not move the base."

@@ -5,17 +5,11 @@ use clock::VirtualLocalTime;
 use domain::Domain;
 use frame::Frame;
 use refusal::Refusal;
+use slave_rules::FrameAnswer;
 ghost use mathlib.Core.Path.{_≡_};
 ghost use Rattle.slave.specs.Step.{frameOf};
 
-// What a slave answers to a frame. D is that of the update.
-pub enum FrameAnswer {
-    SyncTaken,
-    FirstTaken,
-    Updated(i64),
-    Refused(Refusal),
-}
-
+// The answer to a frame, and the record after it.
 pub struct FrameStep {
     pub answer: FrameAnswer,
     pub domain: Domain,

@@ -1,19 +1,17 @@
 // A SYNC on a slave's record (paper 01, "A slave's domain").
-use crate::counter::is_good;
-use crate::counter::judge_counter;
-use crate::step::FrameAnswer;
 use crate::step::FrameStep;
 use clock::VirtualLocalTime;
 use domain::Domain;
 use domain::LastSync;
-use domain::Pair;
 use domain::Pairing;
-use frame::Protection;
 use frame::Sync;
 use refusal::Refusal;
+use slave_rules::FrameAnswer;
+use slave_rules::is_good_counter;
+use slave_rules::judge_counter;
+use slave_rules::pair_of;
 ghost use mathlib.Core.Path.{_≡_};
-ghost use Rattle.slave.specs.User.{userIn};
-ghost use Rattle.slave.specs.Sync.{pairOf, syncOf};
+ghost use Rattle.slave.specs.Sync.{syncOf};
 
 // A SYNC that was not refused before 6: it opens a pair and becomes the last, or is refused by 6.
 pub fn take_sync(domain: Domain, t: VirtualLocalTime, sync: Sync) -> FrameStep
@@ -28,7 +26,7 @@ pub fn take_sync(domain: Domain, t: VirtualLocalTime, sync: Sync) -> FrameStep
         sync.counter,
         t,
     );
-    if !is_good(verdict) {
+    if !is_good_counter(verdict) {
         return FrameStep {
             answer: FrameAnswer::Refused(Refusal::SyncCounter),
             domain,
@@ -56,29 +54,5 @@ pub fn take_sync(domain: Domain, t: VirtualLocalTime, sync: Sync) -> FrameStep
             updates: domain.updates,
             next_counter: domain.next_counter,
         },
-    }
-}
-
-// The pair that a SYNC opens at t.
-fn pair_of(t: VirtualLocalTime, sync: Sync) -> Pair
-    ensures { λ r. ⌜ r ≡ pairOf t sync ⌝ }
-{
-    let protection = sync.protection;
-    Pair {
-        at: t,
-        seconds: sync.seconds,
-        counter: sync.counter,
-        user0: sync.user0,
-        user1: user_in(protection),
-    }
-}
-
-// The user byte that byte 1 of a frame carries: 0 in a secured one, which carries none.
-pub fn user_in(protection: Protection) -> u8
-    ensures { λ r. ⌜ r ≡ userIn protection ⌝ }
-{
-    match protection {
-        Protection::Plain(user) => user,
-        Protection::Secured => 0,
     }
 }

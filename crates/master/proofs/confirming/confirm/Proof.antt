@@ -2,8 +2,9 @@
 -- `protection` gives its part.
 -- Assumes nothing.
 use mathlib.Core.Path.{_≡_, sym, ap, _∙_}
-use Rattle.master.specs.declared.confirming.Follow.{Follow}
-use Rattle.master.specs.Confirm.{followOf, confirmAs}
+use Rattle.master_rules.specs.declared.follow.Follow.{Follow}
+use Rattle.master_rules.specs.Follow.{followOf}
+use Rattle.master.specs.Confirm.{confirmAs}
 use borrow.Author.Needs.{needs}
 use Rattle.master.proofs.confirming.confirm.Statement.{statement}
 use Rattle.master.proofs.confirming.confirm.Tie as tie

@@ -2,7 +2,7 @@
 -- `protection` gives its part.
 -- Assumes nothing.
 use mathlib.Core.Path.{_≡_, sym, ap, _∙_}
-use Rattle.master.specs.declared.sending.Due.{Due}
+use Rattle.master_rules.specs.declared.due.Due.{Due}
 use Rattle.master.specs.Send.{dueIn, sendAs}
 use borrow.Author.Needs.{needs}
 use Rattle.master.proofs.sending.send.Statement.{statement}

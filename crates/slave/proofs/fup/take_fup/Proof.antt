@@ -2,9 +2,9 @@
 -- ensure the parts.
 -- Assumes nothing.
 use mathlib.Core.Path.{_≡_, sym, ap, _∙_}
-use Rattle.slave.specs.declared.fup.Joined.{Joined}
-use Rattle.slave.specs.declared.step.FrameStep.{FrameStep}
-use Rattle.slave.specs.Fup.{joinedOf, fupAs}
+use Rattle.slave_rules.specs.declared.joining.Joined.{Joined}
+use Rattle.slave_rules.specs.Join.{joinedOf}
+use Rattle.slave.specs.Fup.{fupAs}
 use borrow.Author.Needs.{needs}
 use Rattle.slave.proofs.fup.take_fup.Statement.{statement}
 use Rattle.slave.proofs.fup.take_fup.Tie as tie

@@ -3,22 +3,22 @@
 -- Assumes nothing.
 use mathlib.Core.Path.{_≡_, sym, ap, _∙_}
 use borrow.Author.Tests.{not-true, not-false}
-use Rattle.slave.specs.Counter.{isGoodCounter}
+use Rattle.slave_rules.specs.Counter.{isGoodCounter}
 use Rattle.slave.specs.Sync.{takesSync}
 use borrow.Author.Needs.{needs}
 use Rattle.slave.proofs.sync.take_sync.Statement.{statement}
 use Rattle.slave.proofs.sync.take_sync.Tie as tie
 
 told :
-    (c : tie.After-is-good) → let a = c .before .before .before .args in
-    takesSync (a .domain) (a .t) (a .sync) ≡ c .is-good .result
-told c = sym (c .is-good .ensures ∙ ap isGoodCounter (c .before .judge-counter .ensures))
+    (c : tie.After-is-good-counter) → let a = c .before .before .before .args in
+    takesSync (a .domain) (a .t) (a .sync) ≡ c .is-good-counter .result
+told c = sym (c .is-good-counter .ensures ∙ ap isGoodCounter (c .before .judge-counter .ensures))
 
 judge-counter-requires : tie.Need-judge-counter-requires
 judge-counter-requires c κs = search needs
 
-is-good-requires : tie.Need-is-good-requires
-is-good-requires c κs = search needs
+is-good-counter-requires : tie.Need-is-good-counter-requires
+is-good-counter-requires c κs = search needs
 
 returns : tie.Need-returns
 returns c = rw (told (c .before) ∙ not-true _ (c .if1 .taken))
@@ -31,4 +31,4 @@ returns-2 c = rw (told (c .before .before .before) ∙ not-false _ (c .before .b
 
 pub take-sync-spec : {M : Type 1} → statement M
 take-sync-spec =
-    tie.close (tie.spec judge-counter-requires is-good-requires returns pair-of-requires returns-2)
+    tie.close (tie.spec judge-counter-requires is-good-counter-requires returns pair-of-requires returns-2)

@@ -1,0 +1,34 @@
+// What the cases are given: settings of a master.
+use frame::CheckMode;
+use frame::DataIds;
+use settings::DomainSettings;
+use settings::Role;
+use settings::Security;
+use settings::UserBytes;
+
+// A domain's settings, with three user bytes that differ.
+pub fn domain(
+    role: Role,
+    security: Security,
+    period: u64,
+    confirmation_time: u32,
+) -> DomainSettings {
+    let ids = *b"\x10\x11\x12\x13\x14\x15\x16\x17\x18\x19\x1a\x1b\x1c\x1d\x1e\x1f";
+    DomainSettings {
+        follow_up_time: 0,
+        loss_time: 0,
+        future_threshold: 0,
+        past_threshold: 0,
+        period,
+        confirmation_time,
+        ids: DataIds {
+            sync: ids,
+            fup: ids,
+        },
+        role,
+        mode: CheckMode::Ignored,
+        jump_width: 0,
+        security,
+        user: UserBytes(0xA0, 0xA1, 0xA2),
+    }
+}

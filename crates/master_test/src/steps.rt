@@ -1,0 +1,81 @@
+// The steps, each of which writes its line and gives the record back.
+use crate::inputs;
+use crate::line;
+use crate::record;
+use clock::VirtualLocalTime;
+use domain::Domain;
+use master::ConfirmAnswer;
+use master::SendAnswer;
+use master::SetAnswer;
+use master::confirm;
+use master::is_due;
+use master::send;
+use master::set_time;
+use settings::Role;
+use settings::Security;
+
+// ---- a fresh record, of domain 3
+
+// A master that sends plain frames.
+pub fn fresh(period: u64, confirmation_time: u32) -> Domain {
+    fresh_as(Role::Master, Security::Plain, period, confirmation_time)
+}
+
+pub fn fresh_as(role: Role, security: Security, period: u64, confirmation_time: u32) -> Domain {
+    line::word(b"fresh P");
+    line::number(period);
+    line::word(b" C");
+    line::number(confirmation_time as u64);
+    let d = Domain::new(3, inputs::domain(role, security, period, confirmation_time));
+    record::shown(d);
+    d
+}
+
+// ---- the three steps
+
+pub fn set(d: Domain, t: u64, seconds: u32, nanoseconds: u32) -> Domain {
+    line::word(b"set");
+    line::time(seconds as u64, nanoseconds);
+    line::reading(t);
+    let step = set_time(d, VirtualLocalTime(t), seconds, nanoseconds);
+    let answer = step.answer;
+    match answer {
+        SetAnswer::Done => line::word(b": done 0"),
+        SetAnswer::Refused(refusal) => record::refused(refusal),
+    }
+    let after = step.domain;
+    record::shown(after);
+    after
+}
+
+pub fn sent(d: Domain, t: u64) -> Domain {
+    line::word(b"send ");
+    line::reading(t);
+    if is_due(d, VirtualLocalTime(t)) {
+        line::word(b" due");
+    }
+    let step = send(d, VirtualLocalTime(t));
+    let answer = step.answer;
+    match answer {
+        SendAnswer::Sent(sync) => record::sync(sync),
+        SendAnswer::NotDue => line::word(b": not due"),
+    }
+    let after = step.domain;
+    record::shown(after);
+    after
+}
+
+pub fn confirmed(d: Domain, t: u64, counter: u8) -> Domain {
+    line::word(b"confirm");
+    line::number(counter as u64);
+    line::reading(t);
+    let step = confirm(d, VirtualLocalTime(t), counter);
+    let answer = step.answer;
+    match answer {
+        ConfirmAnswer::Followed(fup) => record::fup(fup),
+        ConfirmAnswer::Refused(refusal) => record::refused(refusal),
+    }
+    let after = step.domain;
+    record::shown(after);
+    after
+}

@@ -1,0 +1,42 @@
+// Records and readings that no node gives: each step still answers as its definition says.
+use crate::steps;
+use settings::Role;
+use settings::Security;
+
+// Only a master sends. The other steps do not look at the role.
+pub fn roles() {
+    let mut d = steps::fresh_as(Role::Slave, Security::Plain, 1_000, 500);
+    d = steps::set(d, 0, 5, 0);
+    d = steps::sent(d, 0);
+    d = steps::confirmed(d, 0, 0);
+    d = steps::fresh_as(Role::Absent, Security::Plain, 1_000, 500);
+    d = steps::set(d, 0, 5, 0);
+    d = steps::sent(d, 0);
+}
+
+// Before the reading of the base, of the last sending and of the SYNC, no time has passed.
+pub fn earlier() {
+    let mut d = steps::fresh(1_000, 500);
+    d = steps::set(d, 700, 5, 3);
+    d = steps::sent(d, 600);
+    d = steps::sent(d, 100);
+    d = steps::confirmed(d, 100, 0);
+}
+
+// A next counter that no frame carries is taken modulo 16.
+pub fn next_counter() {
+    let mut d = steps::fresh(1_000, 500);
+    d = steps::set(d, 0, 5, 0);
+    d.next_counter = 255;
+    d = steps::sent(d, 0);
+    d = steps::confirmed(d, 0, 255);
+    d = steps::confirmed(d, 0, 15);
+}
+
+// The update counter, from 255 to 0.
+pub fn updates() {
+    let mut d = steps::fresh(1_000, 500);
+    d.updates = 254;
+    d = steps::set(d, 0, 5, 0);
+    d = steps::set(d, 1, 6, 0);
+}

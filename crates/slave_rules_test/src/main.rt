@@ -1,0 +1,11 @@
+// A slave's rules (paper 01, "A slave's domain") over all counters of a frame, and at both sides of
+// each threshold of a leap.
+mod counters;
+mod leaps;
+mod line;
+
+fn main() {
+    counters::widths();
+    counters::loss();
+    leaps::limits();
+}

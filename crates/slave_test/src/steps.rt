@@ -1,0 +1,164 @@
+// The steps, each of which writes its line and gives the record back.
+use crate::inputs;
+use crate::line;
+use crate::record;
+use clock::VirtualLocalTime;
+use domain::Domain;
+use frame::CheckMode;
+use frame::Frame;
+use frame::Fup;
+use frame::Protection;
+use frame::Read;
+use frame::Sync;
+use slave::FrameStep;
+use slave::status_at;
+use slave::take_frame;
+use slave::take_fup;
+use slave::take_sync;
+
+// ---- a fresh record, of domain 1
+
+pub fn fresh(j: u8, f: u64, l: u64, future: u64, past: u64) -> Domain {
+    fresh_as(CheckMode::Ignored, j, f, l, future, past)
+}
+
+pub fn fresh_as(mode: CheckMode, j: u8, f: u64, l: u64, future: u64, past: u64) -> Domain {
+    let d = Domain::new(1, inputs::slave(mode, j, f, l, future, past));
+    line::word(b"fresh J");
+    line::small(j);
+    line::word(b" F");
+    line::number(f);
+    line::word(b" L");
+    line::number(l);
+    line::word(b" future");
+    line::number(future);
+    line::word(b" past");
+    line::number(past);
+    record::shown(d);
+    d
+}
+
+// ---- SYNC and FUP, by their values
+
+// A plain one, by its counter and seconds.
+pub fn sync(d: Domain, t: u64, counter: u8, seconds: u32) -> Domain {
+    sync_of(d, t, counter, seconds, 0xAA, Protection::Plain(0xBB))
+}
+
+pub fn sync_of(
+    d: Domain,
+    t: u64,
+    counter: u8,
+    seconds: u32,
+    user0: u8,
+    protection: Protection,
+) -> Domain {
+    line::word(b"sync");
+    line::small(counter);
+    line::reading(t);
+    line::number(seconds as u64);
+    line::byte(user0);
+    protected(protection);
+    let s = Sync {
+        domain: 1,
+        counter,
+        user0,
+        seconds,
+        protection,
+    };
+    ended(take_sync(d, VirtualLocalTime(t), s))
+}
+
+// A plain one with no SGW, by its counter, OVS and nanoseconds.
+pub fn fup(d: Domain, t: u64, counter: u8, ovs: u8, nanoseconds: u32) -> Domain {
+    fup_of(
+        d,
+        t,
+        counter,
+        false,
+        ovs,
+        nanoseconds,
+        Protection::Plain(0xCC),
+    )
+}
+
+pub fn fup_of(
+    d: Domain,
+    t: u64,
+    counter: u8,
+    sgw: bool,
+    ovs: u8,
+    nanoseconds: u32,
+    protection: Protection,
+) -> Domain {
+    line::word(b"fup");
+    line::small(counter);
+    line::reading(t);
+    line::time(ovs as u64, nanoseconds);
+    line::flag(sgw);
+    protected(protection);
+    let f = Fup {
+        domain: 1,
+        counter,
+        sgw,
+        ovs,
+        nanoseconds,
+        protection,
+    };
+    ended(take_fup(d, VirtualLocalTime(t), f))
+}
+
+fn protected(protection: Protection) {
+    match protection {
+        Protection::Plain(user) => line::byte(user),
+        Protection::Secured => line::word(b" secured"),
+    }
+}
+
+// ---- a frame, by its bytes
+
+pub fn frame(d: Domain, t: u64, n: u64) -> Domain {
+    let bytes = inputs::eight(n);
+    line::word(b"frame ");
+    io::print_hex(libc::STDOUT_FILENO, n, 16);
+    line::reading(t);
+    match Frame::read(&bytes) {
+        Read::Values(values) => ended(take_frame(d, VirtualLocalTime(t), &bytes, values)),
+        Read::LengthNot8 => d,
+        Read::NoSuchType => d,
+    }
+}
+
+// Bytes that are no frame, with the values of a good SYNC.
+pub fn no_frame(d: Domain, bytes: &[u8]) -> Domain {
+    line::word(b"no-frame");
+    line::number(bytes.len() as u64);
+    let values = Frame::Sync(Sync {
+        domain: 1,
+        counter: 6,
+        user0: 0xAA,
+        seconds: 3600,
+        protection: Protection::Plain(0xBB),
+    });
+    ended(take_frame(d, VirtualLocalTime(0), bytes, values))
+}
+
+// ---- the status
+
+pub fn status(d: Domain, t: u64) {
+    line::word(b"status");
+    line::reading(t);
+    line::letter(b':');
+    line::byte(status_at(d, VirtualLocalTime(t)));
+    line::letter(b'\n');
+}
+
+// ---- the end of a line
+
+fn ended(step: FrameStep) -> Domain {
+    let answer = step.answer;
+    let d = step.domain;
+    record::answered(answer);
+    record::shown(d);
+    d
+}
