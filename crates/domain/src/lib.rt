@@ -1,7 +1,7 @@
 // One domain's record (papers 01, "A slave's domain" and "A master's domain"): its number, what it
 // holds of its settings, its base, and what its role adds. What is not there is a case of an enum and
 // no flag beside a value, so no two fresh records differ in what nobody sees. A constructor stands
-// here, and the one rule that both roles share; `slave` and `master` have the others.
+// here, and the one rule that both roles share; `slave_sync`, `master_set` and the like have the others.
 use clock::Held;
 use clock::VirtualLocalTime;
 use settings::DomainSettings;

@@ -1,21 +1,18 @@
-// SYNC and FUP frames, plain and secured (paper 01, "Frames"): bytes to values, values to bytes, and
-// whether a frame is good under a check mode. The codec knows frames and not the node: a domain here
-// is a number in a frame, and nanoseconds of any size are values. Bytes of every length are taken;
-// what cannot be read or written is answered, and then no lent byte has changed.
-mod byte_two;
-mod check_mode;
+// SYNC and FUP frames, plain and secured (paper 01, "Frames"): the values of a frame, its types, byte 2,
+// and the DataIDs. The codec knows frames and not the node: a domain here is a number in a frame, and
+// nanoseconds of any size are values.
 mod data_ids;
-mod reader;
+mod nibbles;
 mod types;
 mod values;
-mod writer;
 
-pub use check_mode::CheckMode;
 pub use data_ids::DataIds;
-pub use reader::Read;
+pub use data_ids::id_at;
+pub use nibbles::byte_two;
+pub use nibbles::counter_of;
+pub use nibbles::domain_of;
 pub use types::FrameType;
 pub use values::Frame;
 pub use values::Fup;
 pub use values::Protection;
 pub use values::Sync;
-pub use writer::Written;

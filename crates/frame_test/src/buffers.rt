@@ -6,7 +6,8 @@ use frame::Frame;
 use frame::Fup;
 use frame::Protection;
 use frame::Sync;
-use frame::Written;
+use frame_write::Written;
+use frame_write::write_frame;
 
 // The last place with room in 12 bytes is 4. From `usize::MAX - 7` on, 8 more would wrap.
 pub fn lent() {
@@ -35,7 +36,7 @@ fn into(frame: Frame, out: &mut [u8], at: usize) {
     line::bytes(out);
     line::word(b" at");
     line::number(at as u64);
-    match frame.write(ids(), out, at) {
+    match write_frame(frame, ids(), out, at) {
         Written::Done => line::word(b" done"),
         Written::NoRoom => line::word(b" no-room"),
     }

@@ -4,7 +4,9 @@ use crate::inputs::eight;
 use crate::inputs::ids;
 use crate::line;
 use frame::Frame;
-use frame::Read;
+use frame_read::Read;
+use frame_read::read_frame;
+use frame_write::frame_bytes;
 
 // Paper 01's own frames first; then plain and secured ones at the ends of each field.
 pub fn syncs() {
@@ -96,7 +98,7 @@ fn read(n: u64) {
 fn read_bytes(bytes: &[u8]) {
     line::word(b"read");
     line::bytes(bytes);
-    match Frame::read(bytes) {
+    match read_frame(bytes) {
         Read::Values(frame) => line::values(frame),
         Read::LengthNot8 => line::word(b" length"),
         Read::NoSuchType => line::word(b" type"),
@@ -108,7 +110,7 @@ fn round(n: u64) {
     let bytes = eight(n);
     line::word(b"round");
     line::bytes(&bytes);
-    match Frame::read(&bytes) {
+    match read_frame(&bytes) {
         Read::Values(frame) => back(frame),
         Read::LengthNot8 => line::word(b" length"),
         Read::NoSuchType => line::word(b" type"),
@@ -118,5 +120,5 @@ fn round(n: u64) {
 
 fn back(frame: Frame) {
     line::values(frame);
-    line::frame_bytes(&frame.bytes(ids()));
+    line::frame_bytes(&frame_bytes(frame, ids()));
 }

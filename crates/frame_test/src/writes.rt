@@ -6,6 +6,7 @@ use frame::Frame;
 use frame::Fup;
 use frame::Protection;
 use frame::Sync;
+use frame_write::frame_bytes;
 
 // Paper 01's own frames first. Domain, counter, user byte 0, user byte 1, seconds.
 pub fn plain_syncs() {
@@ -140,6 +141,6 @@ fn secured_fup(domain: u8, counter: u8, sgw: bool, ovs: u8, nanoseconds: u32) {
 fn written(frame: Frame) {
     line::word(b"write");
     line::values(frame);
-    line::frame_bytes(&frame.bytes(ids()));
+    line::frame_bytes(&frame_bytes(frame, ids()));
     line::word(b"\n");
 }

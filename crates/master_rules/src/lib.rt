@@ -1,6 +1,6 @@
 // The rules of a master's domain (paper 01, "A master's domain"), on the parts they read: when a domain
-// is due, how its frames go out, and the FUP of an open SYNC. No record is taken or given here: `master`
-// has the steps on one.
+// is due, how its frames go out, and the FUP of an open SYNC. No record is taken or given here:
+// `master_set` and the like have the steps on one.
 mod due;
 mod follow;
 mod sent;

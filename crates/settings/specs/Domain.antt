@@ -3,7 +3,7 @@ use Prim.Native.Nat.{ℕ}
 use mathlib.Core.Bool.{Bool, true, _&&_}
 use lib.Dec.{leb, ltb}
 use lib.ListN.{replicate}
-use Rattle.frame.specs.declared.check_mode.CheckMode.the-variants.{Validated}
+use Rattle.check_mode.specs.declared.CheckMode.the-variants.{Validated}
 use Rattle.settings.specs.declared.domain_settings.DomainSettings.{DomainSettings}
 use Rattle.settings.specs.declared.domain_settings.Role.{Role}
 use Rattle.settings.specs.declared.domain_settings.Role.the-variants.{Absent, Slave, Master}

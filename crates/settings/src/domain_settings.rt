@@ -1,5 +1,5 @@
 // The settings of one domain (paper 01, "Settings of a node"), for both roles.
-use frame::CheckMode;
+use check_mode::CheckMode;
 use frame::DataIds;
 ghost use mathlib.Core.Path.{_≡_};
 ghost use Rattle.settings.specs.Domain.{

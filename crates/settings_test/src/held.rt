@@ -2,7 +2,7 @@
 // stands twice in those given, and none is 0 but the first of a mode or of a kind.
 use crate::inputs::settings;
 use crate::line;
-use frame::CheckMode;
+use check_mode::CheckMode;
 use settings::DomainSettings;
 use settings::Role;
 use settings::Security;

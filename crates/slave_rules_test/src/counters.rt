@@ -3,8 +3,8 @@
 use crate::line;
 use clock::VirtualLocalTime;
 use domain::LastSync;
-use slave_rules::CounterVerdict;
-use slave_rules::judge_counter;
+use slave_counter::CounterVerdict;
+use slave_counter::judge_counter;
 
 // From the ends and the middle, within L; then widths and counters that no settings and no frame have.
 pub fn widths() {

@@ -3,7 +3,7 @@ use crate::steps::frame;
 use crate::steps::fresh_as;
 use crate::steps::no_frame;
 use crate::steps::status;
-use frame::CheckMode;
+use check_mode::CheckMode;
 
 // Paper 01's own: its first, second and fourth line, and the status of the third.
 pub fn paper_lines() {

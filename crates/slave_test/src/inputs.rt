@@ -1,7 +1,7 @@
 // What the cases are given: settings of a slave, and a frame's bytes.
 ghost use mathlib.Core.Path.{_≡_};
 ghost use lib.ListN.{length};
-use frame::CheckMode;
+use check_mode::CheckMode;
 use frame::DataIds;
 use settings::DomainSettings;
 use settings::Role;

@@ -2,19 +2,20 @@
 use crate::inputs;
 use crate::line;
 use crate::record;
+use check_mode::CheckMode;
 use clock::VirtualLocalTime;
 use domain::Domain;
-use frame::CheckMode;
 use frame::Frame;
 use frame::Fup;
 use frame::Protection;
-use frame::Read;
 use frame::Sync;
-use slave::FrameStep;
-use slave::status_at;
-use slave::take_frame;
-use slave::take_fup;
-use slave::take_sync;
+use frame_read::Read;
+use frame_read::read_frame;
+use slave_frame::take_frame;
+use slave_fup::take_fup;
+use slave_show::status_at;
+use slave_sync::FrameStep;
+use slave_sync::take_sync;
 
 // ---- a fresh record, of domain 1
 
@@ -122,7 +123,7 @@ pub fn frame(d: Domain, t: u64, n: u64) -> Domain {
     line::word(b"frame ");
     io::print_hex(libc::STDOUT_FILENO, n, 16);
     line::reading(t);
-    match Frame::read(&bytes) {
+    match read_frame(&bytes) {
         Read::Values(values) => ended(take_frame(d, VirtualLocalTime(t), &bytes, values)),
         Read::LengthNot8 => d,
         Read::NoSuchType => d,

@@ -1,0 +1,3 @@
+pub mod Kept
+pub mod Read
+pub mod Cycle

@@ -1,0 +1,27 @@
+-- Paper 01: a frame for one record: 1, 2, 3, 4 (`frameAdmitted`), 5, then 6, or 7, 8, 9 (`frameOf`).
+-- Assumes nothing.
+use Prim.Native.Nat.{ℕ}
+use mathlib.Core.List.{List}
+use Rattle.clock.specs.declared.reading.VirtualLocalTime.{VirtualLocalTime}
+use Rattle.admission.specs.declared.FrameAdmission.{FrameAdmission}
+use Rattle.admission.specs.declared.FrameAdmission.the-variants.{Admitted, Refused as refused}
+use Rattle.admission.specs.Admission.{frameAdmitted}
+use Rattle.domain.specs.declared.Domain.{Domain}
+use Rattle.slave_update.specs.declared.answer.FrameAnswer.the-variants.{Refused}
+use Rattle.slave_update.specs.Answer.{frameNumber}
+use Rattle.slave_sync.specs.declared.FrameStep.{FrameStep}
+use Rattle.slave_frame.specs.Step.{frameOf}
+use Rattle.call_frame.specs.declared.FrameCall.{FrameCall}
+use Rattle.answers.specs.Kept.{keptAfter}
+
+abbrev pub frameStepped : FrameStep → (kept t : VirtualLocalTime) → FrameCall
+frameStepped s kept t =
+    record { answer = s .answer; domain = s .domain; kept = keptAfter (frameNumber (s .answer)) kept t }
+
+abbrev pub frameCallAs : FrameAdmission → Domain → (kept t : VirtualLocalTime) → List ℕ → FrameCall
+frameCallAs (refused refusal) d kept t bytes = record { answer = Refused refusal; domain = d; kept = kept }
+frameCallAs (Admitted values) d kept t bytes = frameStepped (frameOf d t bytes values) kept t
+
+abbrev pub frameCallOf : Domain → (kept t : VirtualLocalTime) → List ℕ → FrameCall
+frameCallOf d kept t bytes =
+    frameCallAs (frameAdmitted kept t (d .number) (d .settings .role) bytes) d kept t bytes

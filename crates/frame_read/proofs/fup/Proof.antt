@@ -1,0 +1,43 @@
+-- `frame_read::fup` meets its contract: the fields are the definition's, by what the callees
+-- ensure.
+-- Assumes nothing.
+use borrow.Author.Needs.{needs}
+use Rattle.frame_read.proofs.fup.Statement.{statement}
+use Rattle.frame_read.proofs.fup.Tie as tie
+
+shared-slice-read-domain-of : tie.Need-shared-slice-read-domain-of
+shared-slice-read-domain-of c = search needs
+
+domain-of-requires : tie.Need-domain-of-requires
+domain-of-requires c κs = search needs
+
+shared-slice-read-counter-of : tie.Need-shared-slice-read-counter-of
+shared-slice-read-counter-of c = search needs
+
+counter-of-requires : tie.Need-counter-of-requires
+counter-of-requires c κs = search needs
+
+shared-slice-read-t10 : tie.Need-shared-slice-read-t10
+shared-slice-read-t10 c = search needs
+
+shared-slice-read-t15 : tie.Need-shared-slice-read-t15
+shared-slice-read-t15 c = search needs
+
+word-requires : tie.Need-word-requires
+word-requires c κs = search needs
+
+returns : tie.Need-returns
+returns c = rw (c .before .before .before .before .before .domain-of .ensures, c .before .before .before .counter-of .ensures, c .word .ensures)
+
+pub fup-spec : {M : Type 1} → statement M
+fup-spec =
+    tie.close
+    (tie.spec
+    shared-slice-read-domain-of
+    domain-of-requires
+    shared-slice-read-counter-of
+    counter-of-requires
+    shared-slice-read-t10
+    shared-slice-read-t15
+    word-requires
+    returns)

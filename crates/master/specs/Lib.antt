@@ -1,3 +1,0 @@
-pub mod Set
-pub mod Send
-pub mod Confirm

@@ -1,0 +1,15 @@
+-- No two results satisfy the promise of F, as `F-only` for each public function F. No contract cites
+-- this file.
+-- Assumes nothing.
+use Prim.Native.Nat.{ℕ}
+use mathlib.Core.Path.{_≡_}
+use Rattle.promise.specs.Only.{OnlyOne}
+use Rattle.promise.proofs.Laws.{equation-only}
+use Rattle.clock.specs.declared.reading.VirtualLocalTime.{VirtualLocalTime}
+use Rattle.domain.specs.declared.Domain.{Domain}
+use Rattle.master_confirm.specs.declared.ConfirmStep.{ConfirmStep}
+use Rattle.master_confirm.specs.Confirm.{confirmOf}
+
+pub confirm-only :
+    (d : Domain) (t : VirtualLocalTime) (counter : ℕ) → OnlyOne (λ (r : ConfirmStep). r ≡ confirmOf d t counter)
+confirm-only d t counter = equation-only _

@@ -1,0 +1,56 @@
+-- Paper 01, "A master's domain": confirmation. Assumes nothing.
+use Prim.Native.Nat.{ℕ}
+use mathlib.Core.Bool.{false}
+use Rattle.clock.specs.declared.reading.VirtualLocalTime.{VirtualLocalTime}
+use Rattle.refusal.specs.Numbers.{numberOf}
+use Rattle.domain.specs.declared.Domain.{Domain}
+use Rattle.domain.specs.declared.Sending.the-variants.{Confirmed}
+use Rattle.master_rules.specs.declared.follow.Follow.{Follow}
+use Rattle.master_rules.specs.declared.follow.Follow.the-variants.{With, Refused as refused}
+use Rattle.master_confirm.specs.declared.ConfirmAnswer.{ConfirmAnswer}
+use Rattle.master_confirm.specs.declared.ConfirmAnswer.the-variants.{Followed, Refused}
+use Rattle.master_confirm.specs.declared.ConfirmStep.{ConfirmStep}
+use Rattle.master_rules.specs.Sent.{protectionOf}
+use Rattle.master_rules.specs.Follow.{followOf}
+
+abbrev pub confirmNumber : ConfirmAnswer → ℕ
+confirmNumber (Followed f) = 0
+confirmNumber (Refused refusal) = numberOf refusal
+
+-- ---- "The FUP carries the same counter, SGW 0, as OVS the whole seconds beyond those sent, and the
+-- nanoseconds. The SYNC is then no longer open."
+abbrev pub followedOf : Domain → (counter ovs nanoseconds : ℕ) → VirtualLocalTime → ConfirmStep
+followedOf d counter ovs nanoseconds at =
+    record {
+      answer =
+          Followed
+          (record {
+            domain = d .number;
+            counter = counter;
+            sgw = false;
+            ovs = ovs;
+            nanoseconds = nanoseconds;
+            protection = protectionOf (d .settings .security) (d .settings .user .2);
+          });
+      domain =
+          record {
+            settings = d .settings;
+            base = d .base;
+            pairing = d .pairing;
+            last = d .last;
+            sending = Confirmed at;
+            number = d .number;
+            user = d .user;
+            sgw = d .sgw;
+            leap = d .leap;
+            updates = d .updates;
+            «next_counter» = d .«next_counter»;
+          };
+    }
+
+abbrev pub confirmAs : Follow → Domain → ℕ → ConfirmStep
+confirmAs (With ovs nanoseconds at) d counter = followedOf d counter ovs nanoseconds at
+confirmAs (refused refusal) d counter = record { answer = Refused refusal; domain = d }
+
+abbrev pub confirmOf : Domain → VirtualLocalTime → ℕ → ConfirmStep
+confirmOf d t counter = confirmAs (followOf (d .settings .«confirmation_time») (d .sending) t counter) d counter

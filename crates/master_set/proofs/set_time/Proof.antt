@@ -1,0 +1,22 @@
+-- `master_set::set_time` meets its contract: the test is the definition's, and the callees
+-- ensure the parts.
+-- Assumes nothing.
+use borrow.Author.Tests.{le-leb, lt-leb}
+use borrow.Author.Needs.{needs}
+use Rattle.master_set.proofs.set_time.Statement.{statement}
+use Rattle.master_set.proofs.set_time.Tie as tie
+
+returns : tie.Need-returns
+returns c = rw (lt-leb _ _ (c .if1 .taken))
+
+new-requires : tie.Need-new-requires
+new-requires c κs = search needs
+
+next-update-requires : tie.Need-next-update-requires
+next-update-requires c κs = search needs
+
+returns-2 : tie.Need-returns-2
+returns-2 c = rw (le-leb _ _ (c .before .before .before .before .if1 .left), c .before .new .ensures, c .next-update .ensures)
+
+pub set-time-spec : {M : Type 1} → statement M
+set-time-spec = tie.close (tie.spec returns new-requires next-update-requires returns-2)

@@ -1,0 +1,77 @@
+// A node (paper 01): sixteen records, the kept reading, S and the round, with its constructor. Its calls are
+// functions of their own crates (`node_frame`, `node_read`, `node_set`, `node_cycle`, `node_confirm`), state by
+// value in and out. Each looks a record up, calls it or goes round, and stores what comes back. No call has
+// a `requires`; each answers, or refuses by a number, and then gives the node back as it was.
+use clock::VirtualLocalTime;
+use domain::Domain;
+use settings::DomainSettings;
+use settings::NodeSettings;
+use settings::Verdict;
+ghost use mathlib.Core.Path.{_≡_};
+ghost use Rattle.node.specs.New.{recordsOf, freshNode, newOf};
+
+pub struct Node {
+    pub domains: [Domain; 16],
+    // The greatest reading of a successful frame, set, main cycle or confirmation call.
+    pub kept: VirtualLocalTime,
+    // S, SYNC frames per main cycle.
+    pub syncs_per_cycle: u8,
+    // Where the next round of the main cycle starts: after the domain served last.
+    pub round: u8,
+}
+
+pub struct NewNode {
+    pub verdict: Verdict,
+    pub node: Node,
+}
+
+impl Node {
+    // Domains 0 to 15.
+    pub const DOMAINS: usize = 16;
+
+    // A fresh node; or 14, and one with all domains absent and S 1.
+    pub fn new(settings: NodeSettings) -> NewNode
+        ensures { λ r. ⌜ r ≡ newOf settings ⌝ }
+    {
+        match settings.judge() {
+            Verdict::Refused(refusal) => {
+                let absent = [DomainSettings::absent(); 16];
+                NewNode {
+                    verdict: Verdict::Refused(refusal),
+                    node: fresh_node(1, absent),
+                }
+            }
+            Verdict::Good => {
+                let domains = settings.domains;
+                NewNode {
+                    verdict: Verdict::Good,
+                    node: fresh_node(settings.syncs_per_cycle, domains),
+                }
+            }
+        }
+    }
+}
+
+fn fresh_node(syncs_per_cycle: u8, settings: [DomainSettings; 16]) -> Node
+    ensures { λ r. ⌜ r ≡ freshNode «syncs_per_cycle» settings ⌝ }
+{
+    Node {
+        domains: fresh_records(settings),
+        kept: VirtualLocalTime(0),
+        syncs_per_cycle,
+        round: 0,
+    }
+}
+
+fn fresh_records(settings: [DomainSettings; 16]) -> [Domain; 16]
+    ensures { λ r. ⌜ r ≡ recordsOf 0 settings ⌝ }
+{
+    let mut records = [Domain::new(0, DomainSettings::absent()); 16];
+    let mut d = 0;
+    while d < Node::DOMAINS {
+        let one = settings[d];
+        records[d] = Domain::new(d as u8, one);
+        d += 1;
+    }
+    records
+}

@@ -1,0 +1,175 @@
+-- The bounds of the paper, on a good record. No contract cites this file.
+--   base-within          a base holds a time that can be received or set
+--   received-within      a slave's base holds a time that can be received
+--   set-within           a master's base holds a time that can be set
+--   read-within          a read shows a time that can be read
+--   time-exact-here      a base's time at t is its time plus t minus its reading, to the nanosecond
+--   next-counter-within  the counter that is next is below 16
+--   next-counter-exact   so that taking it modulo 16 changes nothing
+--   ovs-within           a master's confirmation is never refused for its OVS
+--   call-ovs-within      nor is a call of one, on whatever record
+-- Assumes nothing.
+use Prim.Native.Nat.{ℕ, _+_, _-_, _%_, _≤_, _<_}
+use mathlib.Core.Path.{_≡_, refl, sym, ap, subst}
+use mathlib.Core.Bool.{true}
+use native.Mathlib.Nat.{mod-eq-of-lt}
+use native.Mathlib.Omega.{arith}
+use lib.Dec.{leb, eqb}
+use borrow.Author.Tests.{leb-true, leb-false}
+use Rattle.promise.proofs.Laws.{either}
+use Rattle.clock.specs.declared.reading.VirtualLocalTime.{VirtualLocalTime}
+use Rattle.clock.specs.declared.time.GlobalTime.{GlobalTime}
+use Rattle.clock.specs.declared.base.TimeBase.{TimeBase}
+use Rattle.clock.specs.declared.base.Held.{Held}
+use Rattle.clock.specs.declared.base.Held.the-variants.{Unset, Set}
+use Rattle.clock.specs.Reading.{spanOf}
+use Rattle.clock.specs.Time.{nanosecondsOf, IsSet, IsReceived, IsRead}
+use Rattle.clock.specs.Base.{timeAt}
+use Rattle.clock.proofs.Laws.{time-exact, read-bound}
+use Rattle.refusal.specs.declared.Refusal.{Refusal}
+use Rattle.refusal.specs.declared.Refusal.the-variants.{Ovs}
+use Rattle.settings.specs.declared.domain_settings.Role.{Role}
+use Rattle.settings.specs.declared.domain_settings.Role.the-variants.{Absent, Slave, Master}
+use Rattle.settings.specs.Domain.{isGoodAs}
+use Rattle.settings.proofs.Laws.{master-range}
+use Rattle.domain.specs.declared.Domain.{Domain}
+use Rattle.domain.specs.declared.Sending.{Sending}
+use Rattle.domain.specs.declared.Sending.the-variants.{Never, Open, Confirmed}
+use Rattle.admission.specs.declared.Admission.{Admission}
+use Rattle.admission.specs.declared.Needed.the-variants.{Master as master, Either}
+use Rattle.master_rules.specs.declared.follow.Follow.{Follow}
+use Rattle.master_rules.specs.Follow.{isOpenFor, ovsOf, followOf}
+use Rattle.master_rules.proofs.Laws.{ovs-bound}
+use Rattle.master_confirm.specs.declared.ConfirmAnswer.{ConfirmAnswer}
+use Rattle.master_confirm.specs.declared.ConfirmAnswer.the-variants.{Followed, Refused}
+use Rattle.master_confirm.specs.Confirm.{confirmNumber, confirmAs, confirmOf}
+use Rattle.answers.specs.declared.Shown.{Shown}
+use Rattle.answers.specs.declared.ReadAnswer.the-variants.{Time, Refused as not-shown}
+use Rattle.call_read.specs.ReadCall.{readAs, readCallAs, readCallOf}
+use Rattle.call_confirm.specs.ConfirmCall.{withRoom, confirmAnswered, confirmCallAs, confirmCallOf}
+use Rattle.node_laws.specs.Good.{HeldWithin, SentWithin, RoleGood, RecordGood}
+use Rattle.node_laws.proofs.Told.{both, either-told}
+use Rattle.node_laws.proofs.Admitted.{Tested, by-admission, master-admitted}
+
+-- ---- the base, whatever the role
+
+wider : (kept : VirtualLocalTime) (b : Held) → HeldWithin 4294967295 kept b → HeldWithin 4294967298 kept b
+wider kept Unset h = h
+wider kept (Set b) h = (omega arith, h .1, h .2)
+
+held-as : (r : Role) (kept : VirtualLocalTime) (d : Domain) → RoleGood r kept d → HeldWithin 4294967298 kept (d .base)
+held-as Absent kept d g = subst (λ (x : Domain). HeldWithin 4294967298 kept (x .base)) (sym g) tt
+held-as Slave kept d g = g .base
+held-as Master kept d g = wider kept (d .base) (g .base)
+
+module _ (i : ℕ) (kept : VirtualLocalTime) (d : Domain) (g : RecordGood i kept d) where
+  within : (b : TimeBase) → d .base ≡ Set b → HeldWithin 4294967298 kept (Set b)
+  within b e = subst (HeldWithin 4294967298 kept) e (held-as (d .settings .role) kept d (g .role))
+
+  pub base-within : (b : TimeBase) → d .base ≡ Set b → IsReceived (b .time)
+  base-within b e = let h = within b e in record { whole = h .0; part = h .1 }
+
+  pub received-within : d .settings .role ≡ Slave → (b : TimeBase) → d .base ≡ Set b → IsReceived (b .time)
+  received-within r b e = base-within b e
+
+  pub set-within : d .settings .role ≡ Master → (b : TimeBase) → d .base ≡ Set b → IsSet (b .time)
+  set-within r b e =
+      let h = subst (HeldWithin 4294967295 kept) e (subst (λ (r : Role). RoleGood r kept d) r (g .role) .base) in
+      record { whole = h .0; part = h .1 }
+
+  -- ---- the time at a reading
+
+  pub time-exact-here :
+      (b : TimeBase) (t : VirtualLocalTime) → d .base ≡ Set b → kept .0 ≤ t .0 → t .0 ≤ 1000000000000000000 →
+      (b .at .0 ≤ t .0) × (nanosecondsOf (timeAt b t) ≡ nanosecondsOf (b .time) + (t .0 - b .at .0))
+  time-exact-here b t e le in-range =
+      (omega (arith, within b e .2), time-exact b t (base-within b e) in-range)
+
+  pub read-within :
+      (asked : ℕ) (t : VirtualLocalTime) (shown : Shown) → readCallOf d kept asked t ≡ Time shown → IsRead (shown .time)
+  read-within asked t shown =
+      by-admission (λ (a : Admission). readCallAs a d t ≡ Time shown → IsRead (shown .time)) kept t (d .number)
+      (d .settings .role) asked Either (λ tested. by-base (tested .in-range) (d .base) refl) (refused _) (refused _)
+    where
+      refused : (refusal : Refusal) → not-shown refusal ≡ Time shown → IsRead (shown .time)
+      refused refusal e = let z : _≡_ {A = ℕ} 0 1 = cc in absurd (omega arith)
+
+      by-base : t .0 ≤ 1000000000000000000 → (h : Held) → d .base ≡ h → readAs h d t ≡ Time shown → IsRead (shown .time)
+      by-base in-range Unset is e = refused _ e
+      by-base in-range (Set b) is e =
+          let same : timeAt b t ≡ shown .time = cc in
+          subst IsRead same (read-bound b t (base-within b is) in-range)
+
+  -- ---- the counter
+
+  pub next-counter-within : d .«next_counter» < 16
+  next-counter-within = by-role (d .settings .role) (g .role)
+    where
+      by-sending : (s : Sending) → SentWithin kept (d .base) (d .«next_counter») s → d .«next_counter» < 16
+      by-sending Never h = omega arith
+      by-sending (Open counter seconds nanoseconds at) h = omega arith
+      by-sending (Confirmed at) h = h .1
+
+      by-role : (r : Role) → RoleGood r kept d → d .«next_counter» < 16
+      by-role Absent h = omega (arith, ap (λ (x : Domain). x .«next_counter») h)
+      by-role Slave h = omega arith
+      by-role Master h = by-sending (d .sending) (h .sent)
+
+  pub next-counter-exact : d .«next_counter» % 16 ≡ d .«next_counter»
+  next-counter-exact = mod-eq-of-lt next-counter-within
+
+  -- ---- OVS
+
+  pub ovs-within :
+      d .settings .role ≡ Master → (t : VirtualLocalTime) (counter : ℕ) → confirmOf d t counter .answer ≡ Refused Ovs → ⊥
+  ovs-within r t counter = by-sending (d .sending) (subst (λ (r : Role). RoleGood r kept d) r (g .role) .sent)
+    where
+      c : ℕ
+      c = d .settings .«confirmation_time»
+
+      in-range : c ≤ 3000000000
+      in-range =
+          master-range (d .settings) (subst (λ (r : Role). isGoodAs r (d .settings) ≡ true) r (g .settings))
+          .confirmation .1
+
+      NotOvs : Follow → Type 0
+      NotOvs f = confirmAs f d counter .answer ≡ Refused Ovs → ⊥
+
+      by-sending : (s : Sending) → SentWithin kept (d .base) (d .«next_counter») s → NotOvs (followOf c s t counter)
+      by-sending Never h = λ e. omega (arith, ap confirmNumber e)
+      by-sending (Open sent seconds nanoseconds at) h =
+          either-told NotOvs (isOpenFor c sent at t counter)
+          (λ is.
+          let time : GlobalTime = record { 0 = seconds; 1 = nanoseconds } in
+          let young = leb-true (spanOf at t) c (both (eqb sent counter) (leb (spanOf at t) c) is .1) in
+          either-told NotOvs (leb (ovsOf time at t) 3) (λ few e. omega (arith, ap confirmNumber e))
+          (λ above e.
+          let good : IsSet time = record { whole = omega arith; part = h .4 } in
+          omega (arith, leb-false (ovsOf time at t) 3 above, ovs-bound time at t good (omega (arith, in-range)))))
+          (λ other e. omega (arith, ap confirmNumber e))
+      by-sending (Confirmed at) h = λ e. omega (arith, ap confirmNumber e)
+
+  pub call-ovs-within :
+      (asked : ℕ) (t : VirtualLocalTime) (counter length : ℕ) →
+      confirmCallOf d kept asked t counter length .answer ≡ Refused Ovs → ⊥
+  call-ovs-within asked t counter length =
+      by-admission (λ (a : Admission). confirmCallAs a d kept t counter length .answer ≡ Refused Ovs → ⊥) kept t (d .number)
+      (d .settings .role) asked master
+      (λ tested.
+      answered (withRoom a length)
+      (either NotOvs (leb 8 length) (here tested)
+      (either NotOvs (eqb (confirmNumber a) 11) (here tested) (λ e. omega (arith, ap confirmNumber e)))))
+      (λ e. omega (arith, ap confirmNumber e)) (λ e. omega (arith, ap confirmNumber e))
+    where
+      a : ConfirmAnswer
+      a = confirmOf d t counter .answer
+
+      NotOvs : ConfirmAnswer → Type 0
+      NotOvs x = x ≡ Refused Ovs → ⊥
+
+      here : Tested kept t (d .settings .role) master → NotOvs a
+      here tested = ovs-within (master-admitted (d .settings .role) (tested .in-role)) t counter
+
+      answered : (x : ConfirmAnswer) → NotOvs x → NotOvs (confirmAnswered x (confirmOf d t counter .domain) d kept t .answer)
+      answered (Followed f) h = h
+      answered (Refused refusal) h = h

@@ -1,0 +1,16 @@
+pub mod Told
+pub mod Later
+pub mod Admitted
+pub mod Slave
+pub mod Master
+pub mod Rounds
+pub mod Fresh
+pub mod Bounds
+pub mod Reachable
+pub mod Keeps
+pub mod Laws
+pub mod Independent
+pub mod Cycles
+pub mod ReadBack
+pub mod Cases
+pub mod Witness

@@ -1,0 +1,275 @@
+-- A master's steps keep a record good. No contract cites this file.
+--   set-good, set-kept           a set, taken or refused; and the kept reading only grows, in its range
+--   confirm-good, confirm-kept   a confirmation likewise
+--   send-good                    a turn of the main cycle
+-- Assumes nothing.
+use Prim.Native.Nat.{ℕ, _+_, _%_, _≤_, _<_}
+use mathlib.Core.Path.{_≡_, refl, sym, subst}
+use mathlib.Core.Bool.{true, _&&_}
+use native.Mathlib.Omega.{arith}
+use lib.Dec.{leb}
+use borrow.Author.Tests.{leb-true}
+use Rattle.promise.proofs.Laws.{either}
+use Rattle.clock.specs.declared.reading.VirtualLocalTime.{VirtualLocalTime}
+use Rattle.clock.specs.declared.base.TimeBase.{TimeBase}
+use Rattle.clock.specs.declared.base.Held.{Held}
+use Rattle.clock.specs.declared.base.Held.the-variants.{Unset, Set}
+use Rattle.clock.specs.Reading.{spanOf}
+use Rattle.clock.specs.Base.{timeAt}
+use Rattle.clock.proofs.Laws.{advance-good}
+use Rattle.settings.specs.declared.domain_settings.Role.{Role}
+use Rattle.settings.specs.declared.domain_settings.Role.the-variants.{Absent, Slave, Master}
+use Rattle.domain.specs.declared.Domain.{Domain}
+use Rattle.domain.specs.declared.Sending.{Sending}
+use Rattle.domain.specs.declared.Sending.the-variants.{Never, Open, Confirmed}
+use Rattle.domain.proofs.Laws.{update-bound}
+use Rattle.admission.specs.declared.Needed.the-variants.{Master as master}
+use Rattle.admission.specs.declared.Admission.{Admission}
+use Rattle.master_rules.specs.declared.due.Due.{Due}
+use Rattle.master_rules.specs.Due.{isMaster, hasWaited, dueWith, dueOf}
+use Rattle.master_rules.specs.declared.follow.Follow.{Follow}
+use Rattle.master_rules.specs.Follow.{isOpenFor, ovsOf, followOf}
+use Rattle.master_rules.proofs.Laws.{due-fits}
+use Rattle.master_set.specs.declared.SetStep.{SetStep}
+use Rattle.master_confirm.specs.declared.ConfirmAnswer.{ConfirmAnswer}
+use Rattle.master_confirm.specs.declared.ConfirmAnswer.the-variants.{Followed, Refused}
+use Rattle.master_set.specs.Set.{withTime}
+use Rattle.master_send.specs.Send.{sentOf, sendAs, sendOf}
+use Rattle.master_confirm.specs.Confirm.{confirmAs, confirmOf}
+use Rattle.call_set.specs.declared.SetCall.{SetCall}
+use Rattle.call_set.specs.SetCall.{setStepped, setCallAs, setCallOf}
+use Rattle.call_confirm.specs.ConfirmCall.{withRoom, confirmAnswered, confirmCallAs, confirmCallOf}
+use Rattle.node_laws.specs.Good.{Blank, IsSet, SentWithin, MasterGood, RoleGood, RecordGood}
+use Rattle.node_laws.proofs.Later.{later}
+use Rattle.node_laws.proofs.Told.{both, either-told}
+use Rattle.node_laws.proofs.Admitted.{by-admission, master-admitted}
+
+-- ---- a good record in the master's role
+
+as-master :
+    (i : ℕ) (kept : VirtualLocalTime) (d : Domain) → d .settings .role ≡ Master → RecordGood i kept d →
+    MasterGood kept d
+as-master i kept d e g = subst (λ (r : Role). RoleGood r kept d) e (g .role)
+
+-- ---- set
+
+still-set :
+    (kept : VirtualLocalTime) (base base′ : Held) (next : ℕ) (s : Sending) → IsSet base′ →
+    SentWithin kept base next s → SentWithin kept base′ next s
+still-set kept base base′ next Never is h = h
+still-set kept base base′ next (Open counter seconds nanoseconds at) is h = (is, h .1, h .2, h .3, h .4, h .5)
+still-set kept base base′ next (Confirmed at) is h = (is, h .1, h .2)
+
+module _ (i : ℕ) (t : VirtualLocalTime) (s ns : ℕ) (d : Domain) (fits : s < 4294967296) (good : ns ≤ 999999999)
+    (e : d .settings .role ≡ Master) (g : RecordGood i t d) where
+  abbrev set-one : Domain
+  set-one = withTime d (record { 0 = s; 1 = ns }) t
+
+  set-master : MasterGood t set-one
+  set-master =
+      let m = as-master i t d e g in
+      record {
+        base = (omega arith, good, omega arith);
+        sent = still-set t (d .base) (set-one .base) (d .«next_counter») (d .sending) tt (m .sent);
+        blank = tt;
+        waiting = m .waiting;
+        unknown = m .unknown;
+        stored = m .stored;
+      }
+
+  set-record : RecordGood i t set-one
+  set-record =
+      record {
+        number = g .number;
+        settings = g .settings;
+        settings-held = g .settings-held;
+        updates = update-bound (d .updates);
+        role = subst (λ (r : Role). RoleGood r t set-one) (sym e) set-master;
+      }
+
+abbrev SetGood : ℕ → SetCall → Type 0
+SetGood i r = RecordGood i (r .kept) (r .domain)
+
+pub set-good :
+    (i : ℕ) (kept : VirtualLocalTime) (asked : ℕ) (t : VirtualLocalTime) (s ns : ℕ) (d : Domain) →
+    s < 4294967296 → RecordGood i kept d →
+    RecordGood i (setCallOf d kept asked t s ns .kept) (setCallOf d kept asked t s ns .domain)
+set-good i kept asked t s ns d fits g =
+    by-admission (λ (a : Admission). SetGood i (setCallAs a d kept t s ns)) kept t (d .number) (d .settings .role)
+    asked master
+    (λ tested.
+    either-told (λ (x : SetStep). SetGood i (setStepped x kept t)) (leb ns 999999999)
+    (λ e.
+    set-record i t s ns d fits (leb-true _ _ e) (master-admitted (d .settings .role) (tested .in-role))
+    (later i kept t d (tested .not-before) g))
+    (λ e. g))
+    g g
+
+abbrev pub Grows : VirtualLocalTime → VirtualLocalTime → Type 0
+Grows kept after = (kept .0 ≤ after .0) × (kept .0 ≤ 1000000000000000000 → after .0 ≤ 1000000000000000000)
+
+stays : (kept : VirtualLocalTime) → Grows kept kept
+stays kept = (omega arith, λ h. h)
+
+pub set-kept :
+    (kept : VirtualLocalTime) (asked : ℕ) (t : VirtualLocalTime) (s ns : ℕ) (d : Domain) →
+    Grows kept (setCallOf d kept asked t s ns .kept)
+set-kept kept asked t s ns d =
+    by-admission (λ (a : Admission). Grows kept (setCallAs a d kept t s ns .kept)) kept t (d .number) (d .settings .role)
+    asked master
+    (λ tested.
+    either (λ (x : SetStep). Grows kept (setStepped x kept t .kept)) (leb ns 999999999)
+    (tested .not-before, λ h. tested .in-range) (stays kept))
+    (stays kept) (stays kept)
+
+-- ---- what was sent last, and the counter that is next: a confirmation and a turn touch nothing else
+
+abbrev sending-as : Domain → Sending → ℕ → Domain
+sending-as d s next =
+    record {
+      settings = d .settings;
+      base = d .base;
+      pairing = d .pairing;
+      last = d .last;
+      sending = s;
+      number = d .number;
+      user = d .user;
+      sgw = d .sgw;
+      leap = d .leap;
+      updates = d .updates;
+      «next_counter» = next;
+    }
+
+still-blank : (b : Held) (d : Domain) (s : Sending) (next : ℕ) → Blank b d → Blank b (sending-as d s next)
+still-blank Unset d s next h = h
+still-blank (Set b) d s next h = h
+
+module _ (i : ℕ) (t : VirtualLocalTime) (d : Domain) (e : d .settings .role ≡ Master) (g : RecordGood i t d) where
+  sending-good : (s : Sending) (next : ℕ) → SentWithin t (d .base) next s → RecordGood i t (sending-as d s next)
+  sending-good s next h =
+      record {
+        number = g .number;
+        settings = g .settings;
+        settings-held = g .settings-held;
+        updates = g .updates;
+        role =
+            subst (λ (r : Role). RoleGood r t (sending-as d s next)) (sym e)
+            (record {
+              base = m .base;
+              sent = h;
+              blank = still-blank (d .base) d s next (m .blank);
+              waiting = m .waiting;
+              unknown = m .unknown;
+              stored = m .stored;
+            });
+      }
+    where
+      m : MasterGood t d
+      m = as-master i t d e g
+
+  -- ---- confirmation
+
+  confirmed : (counter : ℕ) → RecordGood i t (confirmOf d t counter .domain)
+  confirmed counter = by-sending (d .sending) (as-master i t d e g .sent)
+    where
+      c : ℕ
+      c = d .settings .«confirmation_time»
+
+      Kept : Follow → Type 0
+      Kept f = RecordGood i t (confirmAs f d counter .domain)
+
+      by-sending : (s : Sending) → SentWithin t (d .base) (d .«next_counter») s → Kept (followOf c s t counter)
+      by-sending Never h = g
+      by-sending (Open sent seconds nanoseconds at) h =
+          either Kept (isOpenFor c sent at t counter)
+          (either Kept (leb (ovsOf (record { 0 = seconds; 1 = nanoseconds }) at t) 3)
+          (sending-good (Confirmed at) (d .«next_counter») (h .0, omega arith, h .5)) g)
+          g
+      by-sending (Confirmed at) h = g
+
+  -- ---- a turn
+
+  sent-good : (b : TimeBase) → d .base ≡ Set b → timeAt b t .0 ≤ 4294967295 →
+      RecordGood i t (sentOf d (timeAt b t .0) (timeAt b t .1) t .domain)
+  sent-good b is fits =
+      sending-good (Open (d .«next_counter» % 16) (timeAt b t .0) (timeAt b t .1) t) ((d .«next_counter» % 16 + 1) % 16) (
+        subst IsSet (sym is) tt,
+        omega arith,
+        refl,
+        omega arith,
+        advance-good (b .time) (spanOf (b .at) t),
+        omega arith,
+      )
+
+answered :
+    (i : ℕ) (kept t : VirtualLocalTime) (a : ConfirmAnswer) (after d : Domain) → RecordGood i kept d →
+    RecordGood i t after →
+    RecordGood i (confirmAnswered a after d kept t .kept) (confirmAnswered a after d kept t .domain)
+answered i kept t (Followed f) after d g h = h
+answered i kept t (Refused refusal) after d g h = g
+
+pub confirm-good :
+    (i : ℕ) (kept : VirtualLocalTime) (asked : ℕ) (t : VirtualLocalTime) (counter length : ℕ) (d : Domain) →
+    RecordGood i kept d →
+    RecordGood i (confirmCallOf d kept asked t counter length .kept) (confirmCallOf d kept asked t counter length .domain)
+confirm-good i kept asked t counter length d g =
+    by-admission
+    (λ (a : Admission).
+    RecordGood i (confirmCallAs a d kept t counter length .kept) (confirmCallAs a d kept t counter length .domain))
+    kept t (d .number) (d .settings .role) asked master
+    (λ tested.
+    answered i kept t (withRoom (confirmOf d t counter .answer) length) (confirmOf d t counter .domain) d g
+    (confirmed i t d (master-admitted (d .settings .role) (tested .in-role)) (later i kept t d (tested .not-before) g)
+    counter))
+    g g
+
+answered-kept :
+    (kept t : VirtualLocalTime) (a : ConfirmAnswer) (after d : Domain) → Grows kept t →
+    Grows kept (confirmAnswered a after d kept t .kept)
+answered-kept kept t (Followed f) after d h = h
+answered-kept kept t (Refused refusal) after d h = stays kept
+
+pub confirm-kept :
+    (kept : VirtualLocalTime) (asked : ℕ) (t : VirtualLocalTime) (counter length : ℕ) (d : Domain) →
+    Grows kept (confirmCallOf d kept asked t counter length .kept)
+confirm-kept kept asked t counter length d =
+    by-admission (λ (a : Admission). Grows kept (confirmCallAs a d kept t counter length .kept)) kept t (d .number)
+    (d .settings .role) asked master
+    (λ tested.
+    answered-kept kept t (withRoom (confirmOf d t counter .answer) length) (confirmOf d t counter .domain) d
+    (tested .not-before, λ h. tested .in-range))
+    (stays kept) (stays kept)
+
+-- ---- the main cycle's part on one record
+
+is-master : (role : Role) → isMaster role ≡ true → role ≡ Master
+is-master Absent e = cc
+is-master Slave e = cc
+is-master Master e = refl
+
+pub send-good :
+    (i : ℕ) (kept t : VirtualLocalTime) (d : Domain) → kept .0 ≤ t .0 → RecordGood i kept d →
+    RecordGood i t (sendOf d t .domain)
+send-good i kept t d le g = by-base (d .base) refl
+  where
+    role : Role
+    role = d .settings .role
+
+    p : ℕ
+    p = d .settings .period
+
+    Kept : Due → Type 0
+    Kept due = RecordGood i t (sendAs due d t .domain)
+
+    still : RecordGood i t d
+    still = later i kept t d le g
+
+    by-base : (b : Held) → d .base ≡ b → Kept (dueOf role p b (d .sending) t)
+    by-base Unset e = still
+    by-base (Set b) e =
+        either-told Kept (dueWith role p (timeAt b t) (d .sending) t)
+        (λ due.
+        let tests = both (leb (timeAt b t .0) 4294967295 && isMaster role) (hasWaited p (d .sending) t) due in
+        sent-good i t d (is-master role (both (leb (timeAt b t .0) 4294967295) (isMaster role) (tests .0) .1)) still b e
+        (due-fits role p (timeAt b t) (d .sending) t due))
+        (λ e. still)

@@ -1,0 +1,80 @@
+-- The hypotheses of the laws of reachable nodes can be met: the bench's node after its seven calls is
+-- reachable, its slave holds a received time, and its master has sent and confirmed. No contract cites this
+-- file.
+--   reaches        calls one after another lead from a reachable node to a reachable one
+--   bench-reached  the node after the seven calls of P1 to P7 is reachable
+--   bench-slave    its domain 1 is a slave
+--   bench-held     that holds the time of its pair, at its SYNC's reading
+-- Assumes nothing.
+use Prim.Native.Nat.{ℕ}
+use mathlib.Core.Path.{_≡_, refl}
+use mathlib.Core.Bool.{Bool, true, _&&_}
+use mathlib.Core.List.{List, [], _∷_}
+use lib.Dec.{ltb}
+use borrow.Author.Tests.{ltb-true}
+use Rattle.clock.specs.declared.base.Held.the-variants.{Set}
+use Rattle.settings.specs.declared.domain_settings.Role.the-variants.{Slave}
+use Rattle.round.specs.Records.{recordAt}
+use Rattle.round.specs.Round.{goes}
+use Rattle.node.specs.declared.Node.{Node}
+use Rattle.node.specs.New.{newOf}
+use Rattle.node_laws.specs.Calls.{Call, frame, read, set, cycle, confirm, nodeAfter, nodeAfterAll}
+use Rattle.node_laws.specs.Reachable.{AreBytes, IsCall, Reachable, new, after}
+use Rattle.node_laws.specs.Cases.{benchWith, benchCalls}
+use Rattle.node_laws.proofs.Told.{both}
+
+abbrev pub AreCalls : List Call → Type 0
+AreCalls [] = Unit {0}
+AreCalls (c ∷ rest) = IsCall c × AreCalls rest
+
+pub reaches : (n : Node) → Reachable n → (cs : List Call) → AreCalls cs → Reachable (nodeAfterAll n cs)
+reaches n r [] is = r
+reaches n r (c ∷ rest) is = reaches (nodeAfter n c) (after n r c (is .0)) rest (is .1)
+
+abbrev below : List ℕ → Bool
+below [] = true
+below (byte ∷ rest) = ltb byte 256 && below rest
+
+are-bytes : (l : List ℕ) → below l ≡ true → AreBytes l
+are-bytes [] e = tt
+are-bytes (byte ∷ rest) e =
+    let told = both (ltb byte 256) (below rest) e in (ltb-true _ _ (told .0), are-bytes rest (told .1))
+
+abbrev isCall : Call → Bool
+isCall (frame t bytes) = below bytes
+isCall (read domain t) = true
+isCall (set domain t seconds nanoseconds) = ltb seconds 4294967296
+isCall (cycle t out) = true
+isCall (confirm domain t counter out) = true
+
+abbrev areCalls : List Call → Bool
+areCalls [] = true
+areCalls (c ∷ rest) = isCall c && areCalls rest
+
+is-call : (c : Call) → isCall c ≡ true → IsCall c
+is-call (frame t bytes) e = are-bytes bytes e
+is-call (read domain t) e = tt
+is-call (set domain t seconds nanoseconds) e = ltb-true _ _ e
+is-call (cycle t out) e = tt
+is-call (confirm domain t counter out) e = tt
+
+are-calls : (cs : List Call) → areCalls cs ≡ true → AreCalls cs
+are-calls [] e = tt
+are-calls (c ∷ rest) e =
+    let told = both (isCall c) (areCalls rest) e in (is-call c (told .0), are-calls rest (told .1))
+
+abbrev bench : Node
+bench = nodeAfterAll (newOf (benchWith 2) .node) benchCalls
+
+pub bench-reached : Reachable bench
+bench-reached = reaches _ (new (benchWith 2) refl) benchCalls (are-calls benchCalls refl)
+
+pub bench-slave : recordAt (bench .domains) 1 .settings .role ≡ Slave
+unfolding goes
+bench-slave = refl
+
+pub bench-held :
+    recordAt (bench .domains) 1 .base
+    ≡ Set (record { time = record { 0 = 3600; 1 = 100 }; at = record { 0 = 5000000000 } })
+unfolding goes
+bench-held = refl

@@ -1,0 +1,96 @@
+-- What holds of every node that is reachable: one record for a domain in each role, one for the node. A
+-- later request adds a field. Assumes nothing.
+use Prim.Native.Nat.{ℕ, _+_, _%_, _≤_, _<_}
+use mathlib.Core.Path.{_≡_}
+use mathlib.Core.Bool.{true, false}
+use lib.ListN.{length}
+use Rattle.clock.specs.declared.reading.VirtualLocalTime.{VirtualLocalTime}
+use Rattle.clock.specs.declared.base.Held.{Held}
+use Rattle.clock.specs.declared.base.Held.the-variants.{Unset, Set}
+use Rattle.settings.specs.declared.domain_settings.Role.{Role}
+use Rattle.settings.specs.declared.domain_settings.Role.the-variants.{Absent, Slave, Master}
+use Rattle.settings.specs.Domain.{isGood, heldOf, absentHeld}
+use Rattle.domain.specs.declared.Domain.{Domain}
+use Rattle.domain.specs.declared.Pairing.{Pairing}
+use Rattle.domain.specs.declared.Pairing.the-variants.{Waiting, Open}
+use Rattle.domain.specs.declared.LastSync.{LastSync}
+use Rattle.domain.specs.declared.LastSync.the-variants.{Unknown, Seen}
+use Rattle.domain.specs.declared.Sending.{Sending}
+use Rattle.domain.specs.declared.Sending.the-variants.{Never, Open as open-sync, Confirmed}
+use Rattle.domain.specs.declared.Leap.the-variants.{None}
+use Rattle.domain.specs.Fresh.{freshOf}
+use Rattle.round.specs.Records.{recordAt}
+use Rattle.node.specs.declared.Node.{Node}
+
+-- ---- a held time: seconds at most so many, nanoseconds in range, its reading at most the kept one
+abbrev pub HeldWithin : (most : ℕ) (kept : VirtualLocalTime) → Held → Type 0
+HeldWithin most kept Unset = Unit {0}
+HeldWithin most kept (Set b) = (b .time .0 ≤ most) × (b .time .1 ≤ 999999999) × (b .at .0 ≤ kept .0)
+
+-- ---- the SYNC last accepted, and the open pair, which is that SYNC's
+abbrev pub LastWithin : (kept : VirtualLocalTime) → LastSync → Type 0
+LastWithin kept Unknown = Unit {0}
+LastWithin kept (Seen counter at) = (counter < 16) × (at .0 ≤ kept .0)
+
+abbrev pub PairWithin : LastSync → Pairing → Type 0
+PairWithin last Waiting = Unit {0}
+PairWithin last (Open p) = (p .seconds < 4294967296) × (last ≡ Seen (p .counter) (p .at))
+
+-- ---- a slave's base is of a SYNC that was accepted, the last one or one before
+abbrev pub BaseBefore : LastSync → Held → Type 0
+BaseBefore last Unset = Unit {0}
+BaseBefore Unknown (Set b) = ⊥
+BaseBefore (Seen counter at) (Set b) = b .at .0 ≤ at .0
+
+-- ---- an unset base shows nothing
+abbrev pub Blank : Held → Domain → Type 0
+Blank (Set b) d = Unit {0}
+Blank Unset d = (d .updates ≡ 0) × (d .user ≡ record { 0 = 0; 1 = 0; 2 = 0 }) × (d .sgw ≡ false) × (d .leap ≡ None)
+
+-- ---- what was sent last: from a base that is set, with the counter before the next one
+abbrev pub IsSet : Held → Type 0
+IsSet Unset = ⊥
+IsSet (Set b) = Unit {0}
+
+abbrev pub SentWithin : (kept : VirtualLocalTime) → Held → (next : ℕ) → Sending → Type 0
+SentWithin kept base next Never = next ≡ 0
+SentWithin kept base next (open-sync counter seconds nanoseconds at) =
+    IsSet base × (counter < 16) × (next ≡ (counter + 1) % 16) × (seconds < 4294967296) × (nanoseconds ≤ 999999999) × (at .0 ≤ kept .0)
+SentWithin kept base next (Confirmed at) = IsSet base × (next < 16) × (at .0 ≤ kept .0)
+
+-- ---- a record in each role; what the other role adds is fresh
+pub record SlaveGood (kept : VirtualLocalTime) (d : Domain) : Type 0 where
+  pub base : HeldWithin 4294967298 kept (d .base)
+  pub last : LastWithin kept (d .last)
+  pub pair : PairWithin (d .last) (d .pairing)
+  pub order : BaseBefore (d .last) (d .base)
+  pub blank : Blank (d .base) d
+  pub never : d .sending ≡ Never
+  pub next : d .«next_counter» ≡ 0
+
+pub record MasterGood (kept : VirtualLocalTime) (d : Domain) : Type 0 where
+  pub base : HeldWithin 4294967295 kept (d .base)
+  pub sent : SentWithin kept (d .base) (d .«next_counter») (d .sending)
+  pub blank : Blank (d .base) d
+  pub waiting : d .pairing ≡ Waiting
+  pub unknown : d .last ≡ Unknown
+  pub stored : (d .user ≡ record { 0 = 0; 1 = 0; 2 = 0 }) × (d .sgw ≡ false) × (d .leap ≡ None)
+
+abbrev pub RoleGood : Role → (kept : VirtualLocalTime) → Domain → Type 0
+RoleGood Absent kept d = d ≡ freshOf (d .number) absentHeld
+RoleGood Slave kept d = SlaveGood kept d
+RoleGood Master kept d = MasterGood kept d
+
+pub record RecordGood (i : ℕ) (kept : VirtualLocalTime) (d : Domain) : Type 0 where
+  pub number : d .number ≡ i
+  pub settings : isGood (d .settings) ≡ true
+  pub settings-held : heldOf (d .settings) ≡ d .settings
+  pub updates : d .updates < 256
+  pub role : RoleGood (d .settings .role) kept d
+
+pub record Good (n : Node) : Type 0 where
+  pub sixteen : length (n .domains) ≡ 16
+  pub kept : n .kept .0 ≤ 1000000000000000000
+  pub syncs : (1 ≤ n .«syncs_per_cycle») × (n .«syncs_per_cycle» ≤ 16)
+  pub round : n .round < 16
+  pub records : (i : ℕ) → i < 16 → RecordGood i (n .kept) (recordAt (n .domains) i)

@@ -1,0 +1,93 @@
+// The main cycle's round (paper 01, "A master's domain"): sixteen turns over sixteen records, from the one
+// after that served last. Each due domain sends until as many have sent as a cycle may; frames are
+// written one after another at a running offset, and bytes beyond them stay.
+use clock::VirtualLocalTime;
+use domain::Domain;
+use frame::DataIds;
+use frame::Frame;
+use frame_write::write_frame;
+use master_send::SendAnswer;
+use master_send::SendStep;
+use master_send::send;
+ghost use Prim.Native.Nat.{_≤_, _*_};
+ghost use mathlib.Core.Path.{_≡_};
+ghost use Rattle.round.specs.Round.{turnOf, nextAfter, PutAt, RoundIn};
+
+// The records after a round, where the next one starts, and how many have sent.
+pub struct Round {
+    pub domains: [Domain; 16],
+    pub next: u8,
+    pub sent: usize,
+}
+
+pub fn go_round(
+    domains: [Domain; 16],
+    first: u8,
+    t: VirtualLocalTime,
+    most: u8,
+    out: &mut [u8],
+) -> Round
+    ensures { λ r. ⌜ RoundIn domains first t most (now (out .entry)) r (now (out .exit)) ⌝ }
+{
+    let mut records = domains;
+    let mut at = (first % 16) as usize;
+    let mut next = first;
+    let mut sent = 0;
+    let mut turns: u8 = 0;
+    while turns < 16 {
+        let record = records[at];
+        let settings = record.settings;
+        let ids = settings.ids;
+        let step = turn(record, t, sent < (most as usize));
+        let answer = step.answer;
+        let after = step.domain;
+        records[at] = after;
+        sent = put(answer, ids, out, sent);
+        next = next_after(answer, at as u8, next);
+        at = (at + 1) % 16;
+        turns += 1;
+    }
+    Round {
+        domains: records,
+        next,
+        sent,
+    }
+}
+
+// A record's turn: it sends a SYNC if the domain is due and the cycle may still send.
+fn turn(domain: Domain, t: VirtualLocalTime, may_send: bool) -> SendStep
+    ensures { λ r. ⌜ r ≡ turnOf «may_send» domain t ⌝ }
+{
+    if may_send {
+        send(domain, t)
+    } else {
+        SendStep {
+            answer: SendAnswer::NotDue,
+            domain,
+        }
+    }
+}
+
+// Writes what a turn sent behind the frames that are there, and counts it.
+fn put(answer: SendAnswer, ids: DataIds, out: &mut [u8], sent: usize) -> usize
+    requires { ⌜ sent ≤ 16 ⌝ }
+    ensures { λ r. ⌜ PutAt answer ids sent (now (out .entry)) r (now (out .exit)) ⌝ }
+{
+    match answer {
+        SendAnswer::Sent(sync) => {
+            write_frame(Frame::Sync(sync), ids, out, 8 * sent);
+            sent + 1
+        }
+        SendAnswer::NotDue => sent,
+    }
+}
+
+// Where the next round starts after a turn: behind a domain that sent.
+fn next_after(answer: SendAnswer, at: u8, next: u8) -> u8
+    ensures { λ r. ⌜ r ≡ nextAfter answer at next ⌝ }
+{
+    match answer {
+        SendAnswer::Sent(_) => (at % 16 + 1) % 16,
+        SendAnswer::NotDue => next,
+    }
+}

@@ -1,0 +1,27 @@
+-- Paper 01, "A slave's domain": the counter of a SYNC. Assumes nothing.
+use Prim.Native.Nat.{ℕ, _+_, _-_, _%_}
+use mathlib.Core.Bool.{Bool, true, false, cond, _&&_}
+use lib.Dec.{leb, ltb}
+use Rattle.clock.specs.declared.reading.VirtualLocalTime.{VirtualLocalTime}
+use Rattle.clock.specs.Reading.{spanOf}
+use Rattle.domain.specs.declared.LastSync.{LastSync}
+use Rattle.domain.specs.declared.LastSync.the-variants.{Unknown, Seen}
+use Rattle.slave_counter.specs.declared.CounterVerdict.{CounterVerdict}
+use Rattle.slave_counter.specs.declared.CounterVerdict.the-variants.{Free, Good, NotGood}
+
+-- ---- "(new minus last) modulo 16"
+abbrev pub stepOf : (last new : ℕ) → ℕ
+stepOf last new = (new % 16 + 16 - last % 16) % 16
+
+-- ---- "if no counter is known, or more than L has passed since the SYNC last accepted, any counter is
+-- good. Otherwise (new minus last) modulo 16 must be 1 to J."
+abbrev pub verdictOf : (j l : ℕ) → LastSync → ℕ → VirtualLocalTime → CounterVerdict
+verdictOf j l Unknown new t = Free
+verdictOf j l (Seen last at) new t =
+    cond (ltb l (spanOf at t)) Free
+    (cond (leb 1 (stepOf last new) && leb (stepOf last new) j) Good NotGood)
+
+abbrev pub isGoodCounter : CounterVerdict → Bool
+isGoodCounter Free = true
+isGoodCounter Good = true
+isGoodCounter NotGood = false

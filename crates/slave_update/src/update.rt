@@ -1,0 +1,46 @@
+// What a pair and its FUP make of the base (paper 01, "A slave's domain").
+use crate::answer::FrameAnswer;
+use crate::leap::leap_of;
+use clock::GlobalTime;
+use clock::Held;
+use clock::TimeBase;
+use domain::Leap;
+use domain::Pair;
+use frame::Fup;
+ghost use mathlib.Core.Path.{_≡_};
+ghost use Rattle.slave_update.specs.Update.{newBase, updateOf};
+
+// The base that a pair and its FUP give: the SYNC's seconds plus OVS, and the nanoseconds, at T2.
+pub fn new_base(pair: Pair, fup: Fup) -> TimeBase
+    ensures { λ r. ⌜ r ≡ newBase pair fup ⌝ }
+{
+    let seconds = (pair.seconds as u64) + (fup.ovs as u64);
+    let at = pair.at;
+    TimeBase::new(GlobalTime(seconds, fup.nanoseconds), at)
+}
+
+// What an update says: the first one, or D and the leap it is.
+pub struct Update {
+    pub answer: FrameAnswer,
+    pub leap: Leap,
+}
+
+pub fn update_by(future: u64, past: u64, old: Held, new: TimeBase) -> Update
+    ensures { λ r. ⌜ r ≡ updateOf future past old new ⌝ }
+{
+    match old {
+        Held::Unset => Update {
+            answer: FrameAnswer::FirstTaken,
+            leap: Leap::None,
+        },
+        Held::Set(base) => {
+            let time = new.time;
+            let at = new.at;
+            let d = time.minus(base.time_at(at));
+            Update {
+                answer: FrameAnswer::Updated(d),
+                leap: leap_of(future, past, d),
+            }
+        }
+    }
+}
