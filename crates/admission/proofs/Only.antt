@@ -4,17 +4,14 @@
 use Prim.Native.Nat.{ℕ}
 use mathlib.Core.Path.{_≡_}
 use mathlib.Core.Bool.{Bool}
-use mathlib.Core.List.{List}
 use Rattle.promise.specs.Only.{OnlyOne}
 use Rattle.promise.proofs.Laws.{equation-only}
 use Rattle.clock.specs.declared.reading.VirtualLocalTime.{VirtualLocalTime}
-use Rattle.frame.specs.declared.values.Frame.{Frame}
 use Rattle.settings.specs.declared.domain_settings.Role.{Role}
 use Rattle.admission.specs.declared.Needed.{Needed}
 use Rattle.admission.specs.declared.Admission.{Admission}
-use Rattle.admission.specs.declared.FrameAdmission.{FrameAdmission}
 use Rattle.admission.specs.Reading.{isGoodReading}
-use Rattle.admission.specs.Admission.{domainIn, admittedOf, frameAdmitted}
+use Rattle.admission.specs.Admission.{isIn, admittedOf}
 
 pub is-good-reading-only : (kept t : VirtualLocalTime) → OnlyOne (λ (r : Bool). r ≡ isGoodReading kept t)
 is-good-reading-only kept t = equation-only _
@@ -24,10 +21,5 @@ pub admit-only :
     OnlyOne (λ (r : Admission). r ≡ admittedOf kept t own role asked needed)
 admit-only kept t own role asked needed = equation-only _
 
-pub admit-frame-only :
-    (kept t : VirtualLocalTime) (own : ℕ) (role : Role) (bytes : List ℕ) →
-    OnlyOne (λ (r : FrameAdmission). r ≡ frameAdmitted kept t own role bytes)
-admit-frame-only kept t own role bytes = equation-only _
-
-pub domain-in-only : (values : Frame) → OnlyOne (λ (r : ℕ). r ≡ domainIn values)
-domain-in-only values = equation-only _
+pub is-in-only : (role : Role) (needed : Needed) → OnlyOne (λ (r : Bool). r ≡ isIn role needed)
+is-in-only role needed = equation-only _

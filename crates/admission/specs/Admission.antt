@@ -1,23 +1,15 @@
--- Paper 01, "Refusal numbers": 1 to 4, "in the order of the numbers". Assumes nothing.
+-- Paper 01, "Refusal numbers": 1 and 4, "in the order of the numbers". Assumes nothing.
 use Prim.Native.Nat.{ℕ}
 use mathlib.Core.Bool.{Bool, true, false, cond, _&&_}
-use mathlib.Core.List.{List}
 use lib.Dec.{eqb}
 use Rattle.clock.specs.declared.reading.VirtualLocalTime.{VirtualLocalTime}
-use Rattle.frame.specs.declared.values.Frame.{Frame}
-use Rattle.frame.specs.declared.values.Frame.the-variants.{Sync as sync, Fup as fup}
-use Rattle.frame_read.specs.declared.Read.{Read}
-use Rattle.frame_read.specs.declared.Read.the-variants.{Values, LengthNot8, NoSuchType}
-use Rattle.frame_read.specs.Read.{readOf}
-use Rattle.refusal.specs.declared.Refusal.the-variants.{Reading, Length, FrameType, Domain}
+use Rattle.refusal.specs.declared.Refusal.the-variants.{Reading, Domain}
 use Rattle.settings.specs.declared.domain_settings.Role.{Role}
 use Rattle.settings.specs.declared.domain_settings.Role.the-variants.{Absent, Slave, Master}
 use Rattle.admission.specs.declared.Needed.{Needed}
 use Rattle.admission.specs.declared.Needed.the-variants.{Slave as slave, Master as master, Either as either}
 use Rattle.admission.specs.declared.Admission.{Admission}
 use Rattle.admission.specs.declared.Admission.the-variants.{Admitted, Refused}
-use Rattle.admission.specs.declared.FrameAdmission.{FrameAdmission}
-use Rattle.admission.specs.declared.FrameAdmission.the-variants.{Admitted as admitted, Refused as refused}
 use Rattle.admission.specs.Reading.{isGoodReading}
 
 -- ---- "not in the role needed (frame: slave; set, confirmation: master; read: either)"
@@ -39,20 +31,3 @@ abbrev pub admittedOf : (kept t : VirtualLocalTime) (own : ℕ) → Role → (as
 admittedOf kept t own role asked needed =
     cond (isGoodReading kept t) (cond (isFor own role asked needed) Admitted (Refused Domain))
     (Refused Reading)
-
--- ---- frame: 1, 2, 3, 4
-abbrev pub domainIn : Frame → ℕ
-domainIn (sync s) = s .domain
-domainIn (fup f) = f .domain
-
-abbrev pub valuesFor : (own : ℕ) → Role → Frame → FrameAdmission
-valuesFor own role values = cond (isFor own role (domainIn values) slave) (admitted values) (refused Domain)
-
-abbrev pub readFor : Read → (own : ℕ) → Role → FrameAdmission
-readFor LengthNot8 own role = refused Length
-readFor NoSuchType own role = refused FrameType
-readFor (Values values) own role = valuesFor own role values
-
-abbrev pub frameAdmitted : (kept t : VirtualLocalTime) (own : ℕ) → Role → List ℕ → FrameAdmission
-frameAdmitted kept t own role bytes =
-    cond (isGoodReading kept t) (readFor (readOf bytes) own role) (refused Reading)

@@ -8,21 +8,16 @@
 --   time-later         a base's time at a later reading is the earlier time plus the span
 --   time-exact         a base's time at t, in the range of the paper, is its time plus t minus its reading
 --   read-bound         and is at most what the paper allows for a read time
---   difference-exact   D is the difference itself where 64 bits hold it
---   difference-read    as they do for any two times that can be read
 -- Assumes nothing.
-use Prim.Native.Nat.{ℕ, suc, _+_, _-_, _*_, _/_, _%_, _^_, _≤_, _<_}
+use Prim.Native.Nat.{ℕ, _+_, _-_, _*_, _/_, _%_, _^_, _≤_, _<_}
 use mathlib.Core.Path.{_≡_, sym, ap, ap₂, _∙_}
-use mathlib.Core.Bool.{Bool, true, false, cond}
 use native.Mathlib.Omega.{arith}
-use lib.Dec.{ltb}
 use lib.Pow.{pow-mono, pow-pos}
-use lib.IntN.{pos, negsuc, subℕ}
 use Rattle.clock.specs.declared.reading.VirtualLocalTime.{VirtualLocalTime}
 use Rattle.clock.specs.declared.time.GlobalTime.{GlobalTime}
 use Rattle.clock.specs.declared.base.TimeBase.{TimeBase}
 use Rattle.clock.specs.Reading.{spanOf}
-use Rattle.clock.specs.Time.{nanosecondsOf, IsReceived, IsRead, carried, advanced, held, differenceOf}
+use Rattle.clock.specs.Time.{nanosecondsOf, IsReceived, IsRead, carried, advanced}
 use Rattle.clock.specs.Base.{timeAt}
 
 -- ---- the carry, over the width w of the seconds
@@ -70,26 +65,3 @@ module _ (b : TimeBase) (t : VirtualLocalTime) (good : IsReceived (b .time)) (in
 
   pub read-bound : IsRead (timeAt b t)
   read-bound = omega arith
-
--- ---- the difference
-
-pub difference-exact :
-    (a b : GlobalTime) →
-    nanosecondsOf a < nanosecondsOf b + 2 ^ 63 → nanosecondsOf b ≤ nanosecondsOf a + 2 ^ 63 →
-    differenceOf a b ≡ subℕ (nanosecondsOf a) (nanosecondsOf b)
-difference-exact a b up down = go (ltb (nanosecondsOf a) (nanosecondsOf b))
-  where
-    x : ℕ
-    x = nanosecondsOf a
-
-    y : ℕ
-    y = nanosecondsOf b
-
-    go : (β : Bool) → held (cond β (negsuc (y - suc x)) (pos (x - y))) ≡ cond β (negsuc (y - suc x)) (pos (x - y))
-    go true = ap negsuc (omega arith)
-    go false = ap pos (omega arith)
-
-pub difference-read :
-    (a b : GlobalTime) → IsRead a → IsRead b →
-    differenceOf a b ≡ subℕ (nanosecondsOf a) (nanosecondsOf b)
-difference-read a b p q = difference-exact a b (omega arith) (omega arith)

@@ -1,4 +1,2 @@
 pub mod Laws
 pub mod Only
-mod Compared
-mod Signed

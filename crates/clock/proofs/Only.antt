@@ -4,15 +4,13 @@
 use Prim.Native.Nat.{ℕ}
 use mathlib.Core.Path.{_≡_}
 use mathlib.Core.Bool.{Bool}
-use lib.IntN.{ℤ, natAbs}
 use Rattle.promise.specs.Only.{OnlyOne}
 use Rattle.promise.proofs.Laws.{equation-only}
 use Rattle.clock.specs.declared.reading.VirtualLocalTime.{VirtualLocalTime}
 use Rattle.clock.specs.declared.time.GlobalTime.{GlobalTime}
-use Rattle.clock.specs.declared.time.TimeOrder.{TimeOrder}
 use Rattle.clock.specs.declared.base.TimeBase.{TimeBase}
 use Rattle.clock.specs.Reading.{isReading, spanOf}
-use Rattle.clock.specs.Time.{isTime, advanced, orderOf, differenceOf, exceeds, minusExceeds}
+use Rattle.clock.specs.Time.{isTime, advanced}
 use Rattle.clock.specs.Base.{baseOf, timeAt}
 
 pub is-reading-only : (t : VirtualLocalTime) → OnlyOne (λ (r : Bool). r ≡ isReading t)
@@ -26,21 +24,6 @@ is-time-only g = equation-only _
 
 pub advance-only : (g : GlobalTime) (span : ℕ) → OnlyOne (λ (r : GlobalTime). r ≡ advanced g span)
 advance-only g span = equation-only _
-
-pub order-only : (a b : GlobalTime) → OnlyOne (λ (r : TimeOrder). r ≡ orderOf a b)
-order-only a b = equation-only _
-
-pub minus-only : (a b : GlobalTime) → OnlyOne (λ (r : ℤ). r ≡ differenceOf a b)
-minus-only a b = equation-only _
-
-pub magnitude-only : (d : ℤ) → OnlyOne (λ (r : ℕ). r ≡ natAbs d)
-magnitude-only d = equation-only _
-
-pub exceeds-only : (d : ℤ) (threshold : ℕ) → OnlyOne (λ (r : Bool). r ≡ exceeds d threshold)
-exceeds-only d threshold = equation-only _
-
-pub minus-exceeds-only : (d : ℤ) (threshold : ℕ) → OnlyOne (λ (r : Bool). r ≡ minusExceeds d threshold)
-minus-exceeds-only d threshold = equation-only _
 
 pub new-only : (g : GlobalTime) (r : VirtualLocalTime) → OnlyOne (λ (b : TimeBase). b ≡ baseOf g r)
 new-only g r = equation-only _

@@ -1,4 +1,3 @@
 pub mod Reading
 pub mod Time
 pub mod Base
-pub mod Apart

@@ -2,7 +2,6 @@
 // Time, and the base that ties one to the other. This is the only crate where the two meet, and no
 // function here takes one where the other is expected. Nothing here refuses: each function answers
 // on every value, also on those that no node holds. Every crate above builds on these types.
-mod apart;
 mod base;
 mod reading;
 mod time;
@@ -11,7 +10,3 @@ pub use base::Held;
 pub use base::TimeBase;
 pub use reading::VirtualLocalTime;
 pub use time::GlobalTime;
-pub use time::TimeOrder;
-pub use time::exceeds;
-pub use time::magnitude;
-pub use time::minus_exceeds;

@@ -1,10 +1,6 @@
-// Global times (paper 01, "Two clocks"), the time a span later, the order of two times, and their
-// difference D with its thresholds (paper 01, "A slave's domain").
-use crate::apart::Apart;
-use crate::apart::compare;
+// Global times (paper 01, "Two clocks"), and the time a span later.
 ghost use mathlib.Core.Path.{_≡_};
-ghost use lib.IntN.{natAbs};
-ghost use Rattle.clock.specs.Time.{isTime, advanced, orderOf, differenceOf, exceeds, minusExceeds};
+ghost use Rattle.clock.specs.Time.{isTime, advanced};
 
 // A global time: seconds, and nanoseconds.
 pub struct GlobalTime(pub u64, pub u32);
@@ -41,65 +37,5 @@ impl GlobalTime {
         } else {
             GlobalTime(u64::MAX, nanoseconds)
         }
-    }
-
-    // Whether it is earlier than another, the same or later.
-    pub fn order(self, other: GlobalTime) -> TimeOrder
-        ensures { λ r. ⌜ r ≡ orderOf self other ⌝ }
-    {
-        match compare(self, other) {
-            Apart::Behind(_) => TimeOrder::Earlier,
-            Apart::Ahead(m) => if m == 0 {
-                TimeOrder::Same
-            } else {
-                TimeOrder::Later
-            },
-        }
-    }
-
-    // The difference D, this time minus another: the nearer end where it does not fit.
-    pub fn minus(self, other: GlobalTime) -> i64
-        ensures { λ r. ⌜ r ≡ differenceOf self other ⌝ }
-    {
-        match compare(self, other) {
-            Apart::Ahead(m) => m as i64,
-            Apart::Behind(m) => -1 - (m as i64),
-        }
-    }
-}
-
-// Where a time stands against another.
-pub enum TimeOrder {
-    Earlier,
-    Same,
-    Later,
-}
-
-// How far D is from 0.
-pub fn magnitude(d: i64) -> u64
-    ensures { λ r. ⌜ r ≡ natAbs d ⌝ }
-{
-    if d < 0 { (-1 - d) as u64 + 1 } else { d as u64 }
-}
-
-// Whether D exceeds a threshold.
-pub fn exceeds(d: i64, threshold: u64) -> bool
-    ensures { λ r. ⌜ r ≡ exceeds d threshold ⌝ }
-{
-    if d < 0 {
-        false
-    } else {
-        threshold < magnitude(d)
-    }
-}
-
-// Whether minus D exceeds a threshold.
-pub fn minus_exceeds(d: i64, threshold: u64) -> bool
-    ensures { λ r. ⌜ r ≡ minusExceeds d threshold ⌝ }
-{
-    if d < 0 {
-        threshold < magnitude(d)
-    } else {
-        false
     }
 }

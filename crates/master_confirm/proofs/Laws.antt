@@ -12,11 +12,11 @@ use Rattle.refusal.specs.declared.Refusal.{Refusal}
 use Rattle.domain.specs.declared.Domain.{Domain}
 use Rattle.domain.specs.declared.Sending.{Sending}
 use Rattle.domain.specs.declared.Sending.the-variants.{Never, Open, Confirmed}
-use Rattle.master_rules.specs.declared.follow.Follow.{Follow}
-use Rattle.master_rules.specs.declared.follow.Follow.the-variants.{With, Refused as refused}
+use Rattle.master_follow.specs.declared.Follow.{Follow}
+use Rattle.master_follow.specs.declared.Follow.the-variants.{With, Refused as refused}
 use Rattle.master_confirm.specs.declared.ConfirmAnswer.the-variants.{Refused}
 use Rattle.master_confirm.specs.declared.ConfirmStep.{ConfirmStep}
-use Rattle.master_rules.specs.Follow.{isOpenFor, ovsOf, followOf}
+use Rattle.master_follow.specs.Follow.{isOpenFor, ovsOf, followOf}
 use Rattle.master_confirm.specs.Confirm.{confirmNumber, confirmAs, confirmOf}
 
 -- ---- a refusal keeps the record

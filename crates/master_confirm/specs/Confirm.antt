@@ -5,13 +5,13 @@ use Rattle.clock.specs.declared.reading.VirtualLocalTime.{VirtualLocalTime}
 use Rattle.refusal.specs.Numbers.{numberOf}
 use Rattle.domain.specs.declared.Domain.{Domain}
 use Rattle.domain.specs.declared.Sending.the-variants.{Confirmed}
-use Rattle.master_rules.specs.declared.follow.Follow.{Follow}
-use Rattle.master_rules.specs.declared.follow.Follow.the-variants.{With, Refused as refused}
+use Rattle.master_follow.specs.declared.Follow.{Follow}
+use Rattle.master_follow.specs.declared.Follow.the-variants.{With, Refused as refused}
 use Rattle.master_confirm.specs.declared.ConfirmAnswer.{ConfirmAnswer}
 use Rattle.master_confirm.specs.declared.ConfirmAnswer.the-variants.{Followed, Refused}
 use Rattle.master_confirm.specs.declared.ConfirmStep.{ConfirmStep}
 use Rattle.master_rules.specs.Sent.{protectionOf}
-use Rattle.master_rules.specs.Follow.{followOf}
+use Rattle.master_follow.specs.Follow.{followOf}
 
 abbrev pub confirmNumber : ConfirmAnswer → ℕ
 confirmNumber (Followed f) = 0

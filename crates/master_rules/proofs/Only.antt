@@ -12,10 +12,8 @@ use Rattle.settings.specs.declared.domain_settings.Role.{Role}
 use Rattle.settings.specs.declared.domain_settings.Security.{Security}
 use Rattle.domain.specs.declared.Sending.{Sending}
 use Rattle.master_rules.specs.declared.due.Due.{Due}
-use Rattle.master_rules.specs.declared.follow.Follow.{Follow}
 use Rattle.master_rules.specs.Due.{dueOf}
 use Rattle.master_rules.specs.Sent.{protectionOf}
-use Rattle.master_rules.specs.Follow.{followOf}
 
 pub due-at-only :
     (role : Role) (p : ℕ) (base : Held) (s : Sending) (t : VirtualLocalTime) →
@@ -24,7 +22,3 @@ due-at-only role p base s t = equation-only _
 
 pub protection-only : (security : Security) (user : ℕ) → OnlyOne (λ (r : Protection). r ≡ protectionOf security user)
 protection-only security user = equation-only _
-
-pub follow-up-only :
-    (c : ℕ) (s : Sending) (t : VirtualLocalTime) (counter : ℕ) → OnlyOne (λ (r : Follow). r ≡ followOf c s t counter)
-follow-up-only c s t counter = equation-only _

@@ -4,9 +4,9 @@
 // a `requires`; each answers, or refuses by a number, and then gives the node back as it was.
 use clock::VirtualLocalTime;
 use domain::Domain;
+use node_settings::NodeSettings;
+use node_settings::Verdict;
 use settings::DomainSettings;
-use settings::NodeSettings;
-use settings::Verdict;
 ghost use mathlib.Core.Path.{_≡_};
 ghost use Rattle.node.specs.New.{recordsOf, freshNode, newOf};
 

@@ -37,9 +37,9 @@ use Rattle.domain.specs.declared.Sending.{Sending}
 use Rattle.domain.specs.declared.Sending.the-variants.{Never, Open, Confirmed}
 use Rattle.admission.specs.declared.Admission.{Admission}
 use Rattle.admission.specs.declared.Needed.the-variants.{Master as master, Either}
-use Rattle.master_rules.specs.declared.follow.Follow.{Follow}
-use Rattle.master_rules.specs.Follow.{isOpenFor, ovsOf, followOf}
-use Rattle.master_rules.proofs.Laws.{ovs-bound}
+use Rattle.master_follow.specs.declared.Follow.{Follow}
+use Rattle.master_follow.specs.Follow.{isOpenFor, ovsOf, followOf}
+use Rattle.master_follow.proofs.Laws.{ovs-bound}
 use Rattle.master_confirm.specs.declared.ConfirmAnswer.{ConfirmAnswer}
 use Rattle.master_confirm.specs.declared.ConfirmAnswer.the-variants.{Followed, Refused}
 use Rattle.master_confirm.specs.Confirm.{confirmNumber, confirmAs, confirmOf}

@@ -36,7 +36,7 @@ use Rattle.node.specs.declared.Node.{Node}
 use Rattle.node_cycle.specs.declared.NodeCycle.{NodeCycle}
 use Rattle.answers.specs.Cycle.{cycleNumber, cycleCount}
 use Rattle.node_cycle.specs.Cycle.{isRoomFor, goneFrom, cycledBy, cycleRefused, cycleBytes}
-use Rattle.node_laws.specs.Calls.{cycle, sends, answerTo, numberIn}
+use Rattle.node_call.specs.Calls.{cycle, sends, answerTo, numberIn}
 use Rattle.node_laws.specs.Due.{dueOne, dueBelow, dueCount}
 use Rattle.node_laws.specs.Back.{Each, joined, IsEight}
 

@@ -14,10 +14,10 @@ use Rattle.clock.specs.declared.base.Held.the-variants.{Unset}
 use Rattle.settings.specs.declared.domain_settings.DomainSettings.{DomainSettings}
 use Rattle.settings.specs.declared.domain_settings.Role.{Role}
 use Rattle.settings.specs.declared.domain_settings.Role.the-variants.{Absent, Slave, Master}
-use Rattle.settings.specs.declared.node_settings.NodeSettings.{NodeSettings}
-use Rattle.settings.specs.declared.node_settings.Verdict.{Verdict}
+use Rattle.node_settings.specs.declared.NodeSettings.{NodeSettings}
+use Rattle.node_settings.specs.declared.Verdict.{Verdict}
 use Rattle.settings.specs.Domain.{within, isGood, absentHeld, heldAs}
-use Rattle.settings.specs.Node.{allGood}
+use Rattle.node_settings.specs.Node.{allGood}
 use Rattle.settings.proofs.Laws.{held-twice, held-good}
 use Rattle.domain.specs.declared.Domain.{Domain}
 use Rattle.domain.specs.declared.Pairing.the-variants.{Waiting}

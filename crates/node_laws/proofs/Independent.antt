@@ -8,7 +8,7 @@ use mathlib.Core.Path.{_≡_, refl, _∙_}
 use mathlib.Core.List.{List, [], _∷_}
 use Rattle.round.specs.Records.{recordAt}
 use Rattle.node.specs.declared.Node.{Node}
-use Rattle.node_laws.specs.Calls.{Call, nodeAfter, nodeAfterAll, answerTo}
+use Rattle.node_call.specs.Calls.{Call, nodeAfter, nodeAfterAll, answerTo}
 use Rattle.node_laws.specs.Apart.{Own, AllElsewhere, keeping}
 use Rattle.node_laws.proofs.Laws.{other-domains, own-domain}
 

@@ -10,11 +10,12 @@ use lib.ListN.{length}
 use borrow.Author.Tests.{ne-eqb}
 use Rattle.clock.specs.declared.reading.VirtualLocalTime.{VirtualLocalTime}
 use Rattle.refusal.specs.declared.Refusal.{Refusal}
-use Rattle.admission.specs.Admission.{admittedOf, frameAdmitted}
+use Rattle.admission.specs.Admission.{admittedOf}
+use Rattle.frame_admission.specs.FrameAdmission.{frameAdmitted}
 use Rattle.admission.specs.declared.Admission.{Admission}
 use Rattle.admission.specs.declared.Admission.the-variants.{Admitted, Refused as refused}
-use Rattle.admission.specs.declared.FrameAdmission.{FrameAdmission}
-use Rattle.admission.specs.declared.FrameAdmission.the-variants.{Admitted as frame-admitted, Refused as frame-refused}
+use Rattle.frame_admission.specs.declared.FrameAdmission.{FrameAdmission}
+use Rattle.frame_admission.specs.declared.FrameAdmission.the-variants.{Admitted as frame-admitted, Refused as frame-refused}
 use Rattle.admission.specs.declared.Needed.the-variants.{Master}
 use Rattle.domain.specs.declared.Domain.{Domain}
 use Rattle.slave_frame.proofs.Laws.{refusal-keeps-frame}

@@ -27,8 +27,8 @@ use Rattle.admission.specs.declared.Needed.the-variants.{Master as master}
 use Rattle.admission.specs.declared.Admission.{Admission}
 use Rattle.master_rules.specs.declared.due.Due.{Due}
 use Rattle.master_rules.specs.Due.{isMaster, hasWaited, dueWith, dueOf}
-use Rattle.master_rules.specs.declared.follow.Follow.{Follow}
-use Rattle.master_rules.specs.Follow.{isOpenFor, ovsOf, followOf}
+use Rattle.master_follow.specs.declared.Follow.{Follow}
+use Rattle.master_follow.specs.Follow.{isOpenFor, ovsOf, followOf}
 use Rattle.master_rules.proofs.Laws.{due-fits}
 use Rattle.master_set.specs.declared.SetStep.{SetStep}
 use Rattle.master_confirm.specs.declared.ConfirmAnswer.{ConfirmAnswer}

@@ -44,7 +44,7 @@ use Rattle.node_frame.specs.Frame.{addressedBy}
 use Rattle.node_read.specs.Read.{nodeReadOf}
 use Rattle.node_confirm.specs.Confirm.{nodeConfirmOf, confirmedBytes}
 use Rattle.node_cycle.specs.Cycle.{isRoomFor, goneFrom, cycledBy, nodeCycleOf}
-use Rattle.node_laws.specs.Calls.{Call, frame, read, set, cycle, confirm, nodeAfter}
+use Rattle.node_call.specs.Calls.{Call, frame, read, set, cycle, confirm, nodeAfter}
 use Rattle.node_laws.specs.Reachable.{IsCall, Reachable, new, after}
 use Rattle.node_laws.specs.Good.{RecordGood, Good}
 use Rattle.node_laws.specs.Back.{Each, SyncBack}

@@ -42,9 +42,9 @@ use Rattle.domain.specs.declared.Sending.the-variants.{Never, Open, Confirmed}
 use Rattle.master_rules.specs.declared.due.Due.{Due}
 use Rattle.master_rules.specs.declared.due.Due.the-variants.{At, No}
 use Rattle.master_rules.specs.Due.{isMaster, hasWaited, dueOf}
-use Rattle.master_rules.specs.declared.follow.Follow.{Follow}
-use Rattle.master_rules.specs.declared.follow.Follow.the-variants.{With, Refused as refused}
-use Rattle.master_rules.specs.Follow.{wholeOf, ovsOf, followFrom, followOf}
+use Rattle.master_follow.specs.declared.Follow.{Follow}
+use Rattle.master_follow.specs.declared.Follow.the-variants.{With, Refused as refused}
+use Rattle.master_follow.specs.Follow.{wholeOf, ovsOf, followFrom, followOf}
 use Rattle.master_rules.specs.Sent.{protectionOf}
 use Rattle.master_send.specs.declared.SendAnswer.the-variants.{Sent}
 use Rattle.master_send.specs.Send.{dueIn, sendAs, sendOf}

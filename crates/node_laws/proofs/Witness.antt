@@ -18,9 +18,10 @@ use Rattle.round.specs.Records.{recordAt}
 use Rattle.round.specs.Round.{goes}
 use Rattle.node.specs.declared.Node.{Node}
 use Rattle.node.specs.New.{newOf}
-use Rattle.node_laws.specs.Calls.{Call, frame, read, set, cycle, confirm, nodeAfter, nodeAfterAll}
+use Rattle.node_call.specs.Calls.{Call, frame, read, set, cycle, confirm, nodeAfter, nodeAfterAll}
 use Rattle.node_laws.specs.Reachable.{AreBytes, IsCall, Reachable, new, after}
-use Rattle.node_laws.specs.Cases.{benchWith, benchCalls}
+use Rattle.bench_settings.specs.Bench.{benchWith}
+use Rattle.node_laws.specs.Cases.{benchCalls}
 use Rattle.node_laws.proofs.Told.{both}
 
 abbrev pub AreCalls : List Call → Type 0

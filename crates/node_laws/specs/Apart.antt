@@ -9,7 +9,7 @@ use Rattle.master_rules.specs.Due.{isMaster}
 use Rattle.round.specs.Records.{recordAt}
 use Rattle.node.specs.declared.Node.{Node}
 use Rattle.node_frame.specs.Frame.{addressedBy}
-use Rattle.node_laws.specs.Calls.{Call, frame, read, set, cycle, confirm, nodeAfter}
+use Rattle.node_call.specs.Calls.{Call, frame, read, set, cycle, confirm, nodeAfter}
 
 -- ---- The call is not for the domain at place i; a main cycle is for masters.
 abbrev pub Elsewhere : Node → Call → (i : ℕ) → Type 0

@@ -1,4 +1,3 @@
-pub mod Calls
 pub mod Reachable
 pub mod Good
 pub mod Cases

@@ -1,36 +1,95 @@
-// The calls of a node (paper 01), a line each: the call with what it is given, and its number; where
-// it succeeds, what it gives. A lent buffer holds A5 before the call and is written whole after it. A
-// case begins with its number and a node. Bytes are written in hexadecimal, the other numbers in decimal.
-mod calls;
-mod confirms;
-mod cycles;
-mod edges;
-mod frames;
-mod inputs;
-mod line;
-mod news;
-mod reads;
-mod several;
-mod stays;
+// Calls to a node that no constructor gives (paper 01): its master waits for a confirmation as long as 32 bits
+// can say, was updated 255 times, and sends counter 15 next. So 13 shows, which no good C reaches, and the
+// counters pass their ends. A line each, as the trial has them; the trial's tests have every other case.
+use check_mode::CheckMode;
+use clock::VirtualLocalTime;
+use domain::Domain;
+use frame::DataIds;
+use node::Node;
+use node_call::Request;
+use node_call::call;
+use node_settings::NodeSettings;
+use pieces::write_out;
+use settings::DomainSettings;
+use settings::Role;
+use settings::Security;
+use settings::UserBytes;
+use trial_line::put_trial_line;
 
+// The set; the read; SYNC 15. 13 at a FUP with OVS 4, 12 before it; then OVS 3 a nanosecond earlier. SYNC 0.
 fn main() {
-    edges::loss_time_and_nanoseconds();
-    edges::leaps();
-    edges::ten_masters();
-    frames::one_to_five();
-    frames::six_to_nine();
-    reads::reads();
-    reads::sets();
-    cycles::cycles();
-    confirms::confirms();
-    confirms::overflow_seconds();
-    news::refused();
-    several::frames();
-    several::others();
-    stays::kept_by_frames();
-    stays::kept_by_others();
-    stays::newer_set();
-    cycles::due_limit();
-    reads::user_bytes();
-    reads::far_end();
+    let mut n = strange();
+    n = ask(n, 1, Request::Set(4, VirtualLocalTime(5000), 5, 0), 10);
+    n = ask(n, 2, Request::Read(4, VirtualLocalTime(5000)), 10);
+    n = ask(n, 3, Request::Cycle(VirtualLocalTime(5000)), 10);
+    n = ask(
+        n,
+        4,
+        Request::Confirm(4, VirtualLocalTime(4_000_005_000), 15),
+        10,
+    );
+    n = ask(
+        n,
+        5,
+        Request::Confirm(4, VirtualLocalTime(4_000_005_000), 15),
+        7,
+    );
+    n = ask(
+        n,
+        6,
+        Request::Confirm(4, VirtualLocalTime(4_000_004_999), 15),
+        10,
+    );
+    n = ask(n, 7, Request::Cycle(VirtualLocalTime(4_000_005_000)), 10);
+}
+
+// A call with a lent buffer of 10 bytes, or 7.
+fn ask(n: Node, item: u64, request: Request, length: u8) -> Node {
+    if length == 7 {
+        ask_in(n, item, request, &mut [0xA5; 7])
+    } else {
+        ask_in(n, item, request, &mut [0xA5; 10])
+    }
+}
+
+fn ask_in(n: Node, item: u64, request: Request, lent: &mut [u8]) -> Node {
+    let mut out = [0u8; 128];
+    let called = call(n, request, &[], lent);
+    let answer = called.answer;
+    let end = put_trial_line(&mut out, 0, item, answer, lent);
+    write_out(&out, end);
+    called.node
+}
+
+fn strange() -> Node {
+    let made = Node::new(NodeSettings {
+        syncs_per_cycle: 1,
+        domains: [DomainSettings::absent(); 16],
+    });
+    let mut record = Domain::new(4, master());
+    record.updates = 255;
+    record.next_counter = 15;
+    let mut n = made.node;
+    n.domains[4] = record;
+    n
+}
+
+// Secured, P 4 s; no byte of the DataIDs stands twice, so a wrong list or place shows.
+fn master() -> DomainSettings {
+    let sync = *b"\x10\x11\x12\x13\x14\x15\x16\x17\x18\x19\x1a\x1b\x1c\x1d\x1e\x1f";
+    let fup = *b"\xa0\xa1\xa2\xa3\xa4\xa5\xa6\xa7\xa8\xa9\xaa\xab\xac\xad\xae\xaf";
+    DomainSettings {
+        follow_up_time: 0,
+        loss_time: 0,
+        future_threshold: 0,
+        past_threshold: 0,
+        period: 4_000_000_000,
+        confirmation_time: u32::MAX,
+        ids: DataIds { sync, fup },
+        role: Role::Master,
+        mode: CheckMode::Optional,
+        jump_width: 0,
+        security: Security::Secured,
+        user: UserBytes(0xB0, 0xB1, 0xB2),
+    }
 }

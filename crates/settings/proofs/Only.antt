@@ -6,10 +6,7 @@ use mathlib.Core.Bool.{Bool}
 use Rattle.promise.specs.Only.{OnlyOne}
 use Rattle.promise.proofs.Laws.{equation-only}
 use Rattle.settings.specs.declared.domain_settings.DomainSettings.{DomainSettings}
-use Rattle.settings.specs.declared.node_settings.NodeSettings.{NodeSettings}
-use Rattle.settings.specs.declared.node_settings.Verdict.{Verdict}
 use Rattle.settings.specs.Domain.{isGood, absentHeld, heldOf}
-use Rattle.settings.specs.Node.{judgedOf}
 
 pub is-good-only : (s : DomainSettings) → OnlyOne (λ (r : Bool). r ≡ isGood s)
 is-good-only s = equation-only _
@@ -19,6 +16,3 @@ held-only s = equation-only _
 
 pub absent-only : OnlyOne (λ (r : DomainSettings). r ≡ absentHeld)
 absent-only = equation-only _
-
-pub judge-only : (n : NodeSettings) → OnlyOne (λ (r : Verdict). r ≡ judgedOf n)
-judge-only n = equation-only _

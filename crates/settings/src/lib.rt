@@ -1,12 +1,9 @@
-// The settings of a node (paper 01, "Settings of a node"): what a product gives, what is good, and
-// what is held. A role's settings are read only for that role, an absent domain's not at all, so junk
-// there is never refused; what is not read is held as 0. Settings out of range are refused by 14.
+// The settings of one domain (paper 01, "Settings of a node"): what a product gives, what is good, and what is
+// held. A role's settings are read only for that role, an absent domain's not at all, so junk there is never refused;
+// what is not read is held as 0.
 mod domain_settings;
-mod node_settings;
 
 pub use domain_settings::DomainSettings;
 pub use domain_settings::Role;
 pub use domain_settings::Security;
 pub use domain_settings::UserBytes;
-pub use node_settings::NodeSettings;
-pub use node_settings::Verdict;

@@ -1,11 +1,12 @@
 // What is held. A line is the settings by all their fields, first as given, then as held. No number
 // stands twice in those given, and none is 0 but the first of a mode or of a kind.
-use crate::inputs::settings;
 use crate::line;
 use check_mode::CheckMode;
+use frame::DataIds;
 use settings::DomainSettings;
 use settings::Role;
 use settings::Security;
+use settings::UserBytes;
 
 pub fn roles() {
     held(Role::Slave, CheckMode::Validated, Security::Secured);
@@ -19,23 +20,23 @@ pub fn roles() {
     whole(DomainSettings::absent());
 }
 
+// No byte stands twice, so a wrong list or place shows.
 fn given(role: Role, mode: CheckMode, security: Security) -> DomainSettings {
-    let s = settings(role, 7, 1001, 2002, 3003, 4004, 5_005_005, 606_060);
-    let ids = s.ids;
-    let user = s.user;
+    let sync = *b"\x10\x11\x12\x13\x14\x15\x16\x17\x18\x19\x1a\x1b\x1c\x1d\x1e\x1f";
+    let fup = *b"\xa0\xa1\xa2\xa3\xa4\xa5\xa6\xa7\xa8\xa9\xaa\xab\xac\xad\xae\xaf";
     DomainSettings {
-        follow_up_time: s.follow_up_time,
-        loss_time: s.loss_time,
-        future_threshold: s.future_threshold,
-        past_threshold: s.past_threshold,
-        period: s.period,
-        confirmation_time: s.confirmation_time,
-        ids,
+        follow_up_time: 1001,
+        loss_time: 2002,
+        future_threshold: 3003,
+        past_threshold: 4004,
+        period: 5_005_005,
+        confirmation_time: 606_060,
+        ids: DataIds { sync, fup },
         role,
         mode,
-        jump_width: s.jump_width,
+        jump_width: 7,
         security,
-        user,
+        user: UserBytes(0x21, 0x22, 0x23),
     }
 }
 

@@ -22,7 +22,7 @@ fn is_future(threshold: u64, d: i64) -> bool
     if threshold == 0 {
         false
     } else {
-        clock::exceeds(d, threshold)
+        difference::exceeds(d, threshold)
     }
 }
 
@@ -32,6 +32,6 @@ fn is_past(threshold: u64, d: i64) -> bool
     if threshold == 0 {
         false
     } else {
-        clock::minus_exceeds(d, threshold)
+        difference::minus_exceeds(d, threshold)
     }
 }

@@ -2,8 +2,8 @@
 -- `protection` gives its part.
 -- Assumes nothing.
 use mathlib.Core.Path.{_≡_, sym, ap, _∙_}
-use Rattle.master_rules.specs.declared.follow.Follow.{Follow}
-use Rattle.master_rules.specs.Follow.{followOf}
+use Rattle.master_follow.specs.declared.Follow.{Follow}
+use Rattle.master_follow.specs.Follow.{followOf}
 use Rattle.master_confirm.specs.Confirm.{confirmAs}
 use borrow.Author.Needs.{needs}
 use Rattle.master_confirm.proofs.confirm.Statement.{statement}

@@ -1,0 +1,74 @@
+// A record of the bench (paper 01, "Bench program"): the call it asks for, and its line.
+use bench_line::put_bench_line;
+use bench_record::Asked;
+use bench_record::asked_by;
+use fields::byte_at;
+use lines::put_bad;
+use node::Node;
+use node_call::Request;
+use node_call::call;
+ghost use mathlib.Core.Path.{_≡_};
+ghost use Rattle.bench_step.specs.Step.{payloadOf, BenchCalled, BenchStepped};
+
+pub struct BenchStep {
+    pub node: Node,
+    // Where the line ends.
+    pub at: usize,
+    // Whether the run goes on.
+    pub goes_on: bool,
+}
+
+// The record's line, and the node after its call. A bad record ends the run.
+pub fn bench_step(node: Node, item: u64, bytes: &[u8], out: &mut [u8], at: usize) -> BenchStep
+    ensures { λ r. ⌜ BenchStepped node item (now (bytes .entry)) at (now (out .entry)) r (now (out .exit)) ⌝ }
+{
+    match asked_by(bytes) {
+        Asked::Bad => {
+            let end = put_bad(out, at, item);
+            BenchStep {
+                node,
+                at: end,
+                goes_on: false,
+            }
+        }
+        Asked::Call(request) => answer(node, item, request, payload(bytes), out, at),
+    }
+}
+
+// A call with the payload as its frame; what it writes goes to 8 bytes that it is lent.
+fn answer(
+    node: Node,
+    item: u64,
+    request: Request,
+    payload: [u8; 8],
+    out: &mut [u8],
+    at: usize,
+) -> BenchStep
+    ensures { λ r. ⌜ BenchCalled node item request payload at (now (out .entry)) r (now (out .exit)) ⌝ }
+{
+    let mut sent = [0u8; 8];
+    let called = call(node, request, &payload, &mut sent);
+    let told = called.answer;
+    let after = called.node;
+    let end = put_bench_line(out, at, item, told, &sent);
+    BenchStep {
+        node: after,
+        at: end,
+        goes_on: true,
+    }
+}
+
+fn payload(bytes: &[u8]) -> [u8; 8]
+    ensures { λ r. ⌜ r ≡ payloadOf (now (bytes .entry)) ⌝ }
+{
+    [
+        byte_at(bytes, 12),
+        byte_at(bytes, 13),
+        byte_at(bytes, 14),
+        byte_at(bytes, 15),
+        byte_at(bytes, 16),
+        byte_at(bytes, 17),
+        byte_at(bytes, 18),
+        byte_at(bytes, 19),
+    ]
+}

@@ -1,0 +1,4 @@
+pub mod Laws
+pub mod Only
+mod Compared
+mod Signed

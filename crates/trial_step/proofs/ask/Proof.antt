@@ -1,0 +1,114 @@
+-- `trial_step::ask` meets its contract: the lent parts of the two arrays are the record's frame and a buffer of A5s.
+-- Assumes nothing.
+use Prim.Native.Nat.{ℕ, zero, suc, _≤_}
+use mathlib.Core.Path.{_≡_, refl, sym, ap, subst, _∙_}
+use mathlib.Core.Bool.{Bool, true, false, cond}
+use mathlib.Core.List.{List, _∷_}
+use native.Mathlib.Omega.{arith}
+use lib.Dec.{ltb}
+use lib.ListN.{length, getD, take, replicate}
+use lib.Seq.{length-take-le}
+use denote.Ref.{now}
+use borrow.Author.Needs.{needs}
+use borrow.Author.Tests.{ltb-true}
+use Rattle.fields.specs.Fields.{pairAt}
+use Rattle.node.specs.declared.Node.{Node}
+use Rattle.node_call.specs.declared.Request.{Request}
+use Rattle.node_call.specs.declared.Request.the-variants.{Frame, Read, Set, Cycle, Confirm}
+use Rattle.trial_step.specs.declared.TrialStep.{TrialStep}
+use Rattle.trial_step.specs.Step.{frameOf, atMost512, lentLength, TrialCalled, TrialAsked}
+use Rattle.trial_step.proofs.ask.Statement.{statement}
+use Rattle.trial_step.proofs.ask.Tie as tie
+
+-- ---- At most 512 bytes are lent.
+at-most : (n : ℕ) → atMost512 n ≤ 512
+at-most n = go (ltb n 512) refl
+  where
+    go : (b : Bool) → ltb n 512 ≡ b → cond b n 512 ≤ 512
+    go true e = omega (arith, ltb-true n 512 e)
+    go false e = omega arith
+
+lent-most : (q : Request) (bytes : List ℕ) → lentLength q bytes ≤ 512
+lent-most (Frame t) bytes = omega arith
+lent-most (Read domain t) bytes = omega arith
+lent-most (Set domain t s ns) bytes = omega arith
+lent-most (Cycle t) bytes = at-most (pairAt bytes 12)
+lent-most (Confirm domain t counter) bytes = at-most (pairAt bytes 13)
+
+-- ---- A part of a list of one value.
+take-replicate : (n m a : ℕ) → n ≤ m → take n (replicate m a) ≡ replicate n a
+take-replicate zero m a h = refl
+take-replicate (suc n) zero a h = absurd (omega arith)
+take-replicate (suc n) (suc m) a h = ap (λ (l : List ℕ). a ∷ l) (take-replicate n m a (omega arith))
+
+asked :
+    {n : Node} {item : ℕ} {q : Request} (bytes : List ℕ) {frame before after : List ℕ} {count lent at : ℕ} {r : TrialStep} →
+    frame ≡ frameOf bytes → count ≡ getD bytes 3 0 → lent ≡ lentLength q bytes →
+    TrialCalled n item q (take count frame) (take lent (replicate 512 0xA5)) at before r after →
+    TrialAsked n item q bytes at before r after
+asked {n} {item} {q} bytes {frame} {before} {after} {count} {lent} {at} {r} e f g p =
+    let h : lent ≤ 512 = omega (arith, lent-most q bytes) in
+    subst (λ xs. TrialCalled n item q xs (replicate (lentLength q bytes) 0xA5) at before r after) (λ i. take (f i) (e i))
+    (subst (λ xs. TrialCalled n item q (take count frame) xs at before r after)
+    (take-replicate lent 512 0xA5 h ∙ ap (λ (k : ℕ). replicate k 0xA5) g)
+    p)
+
+frame-of-requires : tie.Need-frame-of-requires
+frame-of-requires c κs = search needs
+
+byte-at-requires : tie.Need-byte-at-requires
+byte-at-requires c κs = search needs
+
+cast-frame-length : tie.Need-cast-frame-length
+cast-frame-length c = search needs
+
+lent-length-requires : tie.Need-lent-length-requires
+lent-length-requires c κs = search needs
+
+array-share-prefix-frame : tie.Need-array-share-prefix-frame
+array-share-prefix-frame c = search needs
+
+slice-aggregate-answer : tie.Need-slice-aggregate-answer
+slice-aggregate-answer c =
+    let read = c .before .before in
+    let made = read .before in
+    let whole : length (made .frame-of .result) ≡ 255 = ap length (made .frame-of .ensures) in
+    sym (length-take-le (read .byte-at .result) (made .frame-of .result) (omega arith))
+
+array-borrow-prefix-buffer : tie.Need-array-borrow-prefix-buffer
+array-borrow-prefix-buffer c =
+    let a = c .before .before .before .before .before .before .args in
+    omega (arith, lent-most (a .request) (now (a .bytes)))
+
+slice-aggregate-answer-2 : tie.Need-slice-aggregate-answer-2
+slice-aggregate-answer-2 c =
+    sym (length-take-le (c .before .before .lent-length .result) (replicate 512 0xA5) (array-borrow-prefix-buffer (c .before)))
+
+answer-requires : tie.Need-answer-requires
+answer-requires c κs = search needs
+
+same-length : tie.Need-same-length
+same-length c = search needs
+
+returns : tie.Need-returns
+returns c =
+    let answered = c .before .before .before in
+    let lent = answered .before .before .before .before in
+    let read = lent .before in
+    asked (now (read .before .before .before .before .args .bytes)) (read .before .frame-of .ensures) (read .byte-at .ensures) (lent .lent-length .ensures) (answered .answer .ensures)
+
+pub ask-spec : {M : Type 1} → statement M
+ask-spec =
+    tie.close
+    (tie.spec
+    frame-of-requires
+    byte-at-requires
+    cast-frame-length
+    lent-length-requires
+    array-share-prefix-frame
+    slice-aggregate-answer
+    array-borrow-prefix-buffer
+    slice-aggregate-answer-2
+    answer-requires
+    same-length
+    returns)

@@ -1,0 +1,125 @@
+-- `trial_step::trial_step` meets its contract: the test is the definition's, and each arm knows what the record asks
+-- for. Assumes nothing.
+use Prim.Native.Nat.{ℕ}
+use mathlib.Core.Path.{_≡_, refl, sym, subst, _∙_}
+use mathlib.Core.Bool.{true, false}
+use mathlib.Core.List.{List}
+use denote.Ref.{now}
+use borrow.Author.Needs.{needs}
+use Rattle.text.specs.Text.{Puts}
+use Rattle.lines.specs.Lines.{badText}
+use Rattle.node.specs.declared.Node.{Node}
+use Rattle.node_call.specs.declared.Request.{Request}
+use Rattle.bench_record.specs.declared.Asked.the-variants.{Call, Bad}
+use Rattle.bench_record.specs.Record.{askedBy}
+use Rattle.trial_settings.specs.Block.{isSettings}
+use Rattle.trial_step.specs.declared.TrialStep.{TrialStep}
+use Rattle.trial_step.specs.Step.{Renewed, TrialAsked, CalledAs, SteppedAs, TrialStepped}
+use Rattle.trial_step.proofs.trial_step.Statement.{statement}
+use Rattle.trial_step.proofs.trial_step.Tie as tie
+
+module _ (n : Node) (item : ℕ) (bytes : List ℕ) (at : ℕ) (before : List ℕ) where
+  renewed :
+      {r : TrialStep} {after : List ℕ} → isSettings bytes ≡ true → Renewed item bytes at before r after →
+      TrialStepped n item bytes at before r after
+  renewed {r} {after} e p = subst (λ b. SteppedAs b n item bytes at before r after) (sym e) p
+
+  bad :
+      {end : ℕ} {after : List ℕ} → isSettings bytes ≡ false → askedBy bytes ≡ Bad → Puts (badText item) at before end after →
+      TrialStepped n item bytes at before (record { node = n; at = end; «goes_on» = false }) after
+  bad {end} {after} e f p =
+      let r : TrialStep = record { node = n; at = end; «goes_on» = false } in
+      subst (λ b. SteppedAs b n item bytes at before r after) (sym e)
+      (subst (λ a. CalledAs a n item bytes at before r after) (sym f) (record { node = refl; «goes_on» = refl; line = p }))
+
+  asked :
+      {q : Request} {r : TrialStep} {after : List ℕ} →
+      isSettings bytes ≡ false → askedBy bytes ≡ Call q → TrialAsked n item q bytes at before r after →
+      TrialStepped n item bytes at before r after
+  asked {r} {after} e f p =
+      subst (λ b. SteppedAs b n item bytes at before r after) (sym e)
+      (subst (λ a. CalledAs a n item bytes at before r after) (sym f) p)
+
+is-settings-requires : tie.Need-is-settings-requires
+is-settings-requires c κs = search needs
+
+renew-requires : tie.Need-renew-requires
+renew-requires c κs = search needs
+
+same-length : tie.Need-same-length
+same-length c = search needs
+
+returns : tie.Need-returns
+returns c =
+    let wrote = c .before .before in
+    let then = wrote .before .before in
+    let test = then .before in
+    let a = test .before .before .before .args in
+    renewed (a .node) (a .item) (now (a .bytes)) (a .at) (now (a .out))
+    (sym (test .is-settings .ensures) ∙ then .if1 .taken)
+    (wrote .renew .ensures)
+
+asked-by-requires : tie.Need-asked-by-requires
+asked-by-requires c κs = search needs
+
+enum-told : tie.Need-enum-told
+enum-told c = search needs
+
+put-bad-requires : tie.Need-put-bad-requires
+put-bad-requires c κs = search needs
+
+enum-known-request : tie.Need-enum-known-request
+enum-known-request c = search needs
+
+ask-requires : tie.Need-ask-requires
+ask-requires c κs = search needs
+
+same-length-2 : tie.Need-same-length-2
+same-length-2 c = search needs
+
+returns-2 : tie.Need-returns-2
+returns-2 c =
+    let wrote = c .before .before in
+    let arm = wrote .before .before in
+    let read = arm .before .before in
+    let else = read .before in
+    let test = else .before in
+    let a = test .before .before .before .args in
+    bad (a .node) (a .item) (now (a .bytes)) (a .at) (now (a .out))
+    (sym (test .is-settings .ensures) ∙ else .if1 .left)
+    (sym (read .asked-by .ensures) ∙ arm .enum-told .given .1)
+    (wrote .put-bad .ensures)
+
+same-length-3 : tie.Need-same-length-3
+same-length-3 c = search needs
+
+returns-3 : tie.Need-returns-3
+returns-3 c =
+    let answered = c .before .before in
+    let arm = answered .before .before .before in
+    let read = arm .before .before in
+    let else = read .before in
+    let test = else .before in
+    let a = test .before .before .before .args in
+    asked (a .node) (a .item) (now (a .bytes)) (a .at) (now (a .out))
+    (sym (test .is-settings .ensures) ∙ else .if1 .left)
+    (sym (read .asked-by .ensures) ∙ arm .request .given .1)
+    (answered .ask .ensures)
+
+pub trial-step-spec : {M : Type 1} → statement M
+trial-step-spec =
+    tie.close
+    (tie.spec
+    is-settings-requires
+    renew-requires
+    same-length
+    returns
+    asked-by-requires
+    enum-told
+    put-bad-requires
+    enum-known-request
+    ask-requires
+    same-length-2
+    returns-2
+    same-length-3
+    returns-3)

@@ -1,0 +1,174 @@
+// An item of the trial: a settings block or a call record, and its line.
+use bench_record::Asked;
+use bench_record::asked_by;
+use fields::byte_at;
+use fields::pair_at;
+use lines::put_answer;
+use lines::put_bad;
+use node::Node;
+use node_call::Request;
+use node_call::call;
+use node_settings::Verdict;
+use text::put_byte;
+use trial_line::put_trial_line;
+use trial_settings::is_settings;
+use trial_settings::settings_of;
+ghost use mathlib.Core.Path.{_≡_};
+ghost use Rattle.trial_step.specs.Step.{
+  itemLength,
+  atMost512,
+  lentLength,
+  frameOf,
+  verdictNumber,
+  Renewed,
+  TrialCalled,
+  TrialAsked,
+  TrialStepped,
+};
+
+pub struct TrialStep {
+    pub node: Node,
+    // Where the line ends.
+    pub at: usize,
+    // Whether the run goes on.
+    pub goes_on: bool,
+}
+
+// How many bytes the item has that begins here: 20, or those of a settings block. Where its first bytes
+// have not come yet, it is more than there are.
+pub fn item_length(bytes: &[u8]) -> usize
+    ensures { λ r. ⌜ r ≡ itemLength (now (bytes .entry)) ⌝ }
+{
+    if is_settings(bytes) {
+        4 + 128 * (byte_at(bytes, 3) as usize)
+    } else {
+        20
+    }
+}
+
+// The item's line, and the node after it. A bad record ends the run.
+pub fn trial_step(node: Node, item: u64, bytes: &[u8], out: &mut [u8], at: usize) -> TrialStep
+    ensures { λ r. ⌜ TrialStepped node item (now (bytes .entry)) at (now (out .entry)) r (now (out .exit)) ⌝ }
+{
+    if is_settings(bytes) {
+        return renew(item, bytes, out, at);
+    }
+    match asked_by(bytes) {
+        Asked::Bad => {
+            let end = put_bad(out, at, item);
+            TrialStep {
+                node,
+                at: end,
+                goes_on: false,
+            }
+        }
+        Asked::Call(request) => ask(node, item, request, bytes, out, at),
+    }
+}
+
+// The call that a record asks for, with the record's frame and a lent buffer of A5s.
+fn ask(
+    node: Node,
+    item: u64,
+    request: Request,
+    bytes: &[u8],
+    out: &mut [u8],
+    at: usize,
+) -> TrialStep
+    ensures { λ r. ⌜ TrialAsked node item request (now (bytes .entry)) at (now (out .entry)) r (now (out .exit)) ⌝ }
+{
+    let frame = frame_of(bytes);
+    let frame_length = byte_at(bytes, 3) as usize;
+    let mut buffer = [0xA5u8; 512];
+    let length = lent_length(request, bytes);
+    answer(
+        node,
+        item,
+        request,
+        &frame[..frame_length],
+        &mut buffer[..length],
+        out,
+        at,
+    )
+}
+
+// The node of a settings block, also where it is refused.
+fn renew(item: u64, bytes: &[u8], out: &mut [u8], at: usize) -> TrialStep
+    ensures { λ r. ⌜ Renewed item (now (bytes .entry)) at (now (out .entry)) r (now (out .exit)) ⌝ }
+{
+    let new = Node::new(settings_of(bytes));
+    let verdict = new.verdict;
+    let node = new.node;
+    let newline = put_answer(out, at, item, verdict_number(verdict));
+    let end = put_byte(out, newline, b'\n');
+    TrialStep {
+        node,
+        at: end,
+        goes_on: true,
+    }
+}
+
+fn verdict_number(verdict: Verdict) -> u8
+    ensures { λ r. ⌜ r ≡ verdictNumber verdict ⌝ }
+{
+    match verdict {
+        Verdict::Good => 0,
+        Verdict::Refused(refusal) => refusal.number(),
+    }
+}
+
+// A call and its line.
+fn answer(
+    node: Node,
+    item: u64,
+    request: Request,
+    frame: &[u8],
+    buffer: &mut [u8],
+    out: &mut [u8],
+    at: usize,
+) -> TrialStep
+    ensures { λ r. ⌜ TrialCalled node item request (now (frame .entry)) (now (buffer .entry)) at (now (out .entry)) r (now (out .exit)) ⌝ }
+{
+    let called = call(node, request, frame, buffer);
+    let told = called.answer;
+    let after = called.node;
+    let end = put_trial_line(out, at, item, told, buffer);
+    TrialStep {
+        node: after,
+        at: end,
+        goes_on: true,
+    }
+}
+
+// The length of the lent buffer: in the payload's first two bytes for a main cycle, after the counter for
+// a confirmation. Above 512 it counts as 512.
+fn lent_length(request: Request, bytes: &[u8]) -> usize
+    ensures { λ r. ⌜ r ≡ lentLength request (now (bytes .entry)) ⌝ }
+{
+    match request {
+        Request::Frame(_) => 0,
+        Request::Read(_, _) => 0,
+        Request::Set(_, _, _, _) => 0,
+        Request::Cycle(_) => at_most_512(pair_at(bytes, 12)),
+        Request::Confirm(_, _, _) => at_most_512(pair_at(bytes, 13)),
+    }
+}
+
+fn at_most_512(length: u16) -> usize
+    ensures { λ r. ⌜ r ≡ atMost512 length ⌝ }
+{
+    if length < 512 { length as usize } else { 512 }
+}
+
+// The payload, and zeros.
+fn frame_of(bytes: &[u8]) -> [u8; 255]
+    ensures { λ r. ⌜ r ≡ frameOf (now (bytes .entry)) ⌝ }
+{
+    let mut frame = [0u8; 255];
+    let mut i = 0;
+    while i < 8 {
+        frame[i] = byte_at(bytes, 12 + i);
+        i += 1;
+    }
+    frame
+}
