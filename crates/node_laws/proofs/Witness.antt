@@ -1,6 +1,7 @@
 -- The hypotheses of the laws of reachable nodes can be met: the bench's node after its seven calls is
 -- reachable, its slave holds a received time, and its master has sent and confirmed. No contract cites this
 -- file.
+--   is-call        a call that passes the test has arguments as their types say
 --   reaches        calls one after another lead from a reachable node to a reachable one
 --   bench-reached  the node after the seven calls of P1 to P7 is reachable
 --   bench-slave    its domain 1 is a slave
@@ -41,7 +42,7 @@ are-bytes [] e = tt
 are-bytes (byte ∷ rest) e =
     let told = both (ltb byte 256) (below rest) e in (ltb-true _ _ (told .0), are-bytes rest (told .1))
 
-abbrev isCall : Call → Bool
+abbrev pub isCall : Call → Bool
 isCall (frame t bytes) = below bytes
 isCall (read domain t) = true
 isCall (set domain t seconds nanoseconds) = ltb seconds 4294967296
@@ -52,7 +53,7 @@ abbrev areCalls : List Call → Bool
 areCalls [] = true
 areCalls (c ∷ rest) = isCall c && areCalls rest
 
-is-call : (c : Call) → isCall c ≡ true → IsCall c
+pub is-call : (c : Call) → isCall c ≡ true → IsCall c
 is-call (frame t bytes) e = are-bytes bytes e
 is-call (read domain t) e = tt
 is-call (set domain t seconds nanoseconds) e = ltb-true _ _ e

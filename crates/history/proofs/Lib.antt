@@ -1,0 +1,15 @@
+-- The proofs of `history`, each after what it stands on. No contract cites this file.
+pub mod Row
+pub mod Rows
+pub mod Ranges
+pub mod Grown
+pub mod Begun
+pub mod Placed
+pub mod MasterView
+pub mod Standing
+pub mod SlaveView
+pub mod Held
+pub mod HeardAll
+pub mod Since
+pub mod Follows
+pub mod Taken

@@ -1,0 +1,424 @@
+-- What a call does to a master's record, and what it gives of the domain. No contract cites this file.
+--   DueAt, OpenFor   what is told where a record is due, and where it holds a SYNC that may be confirmed
+--   Moves            what a call at t may do to a record and to the list of what was sent in its domain
+--   master-moves     what a call of a good node does to a master's record, and gives in its domain, is such a move
+-- Assumes nothing.
+use Prim.Native.Nat.{ℕ, zero, suc, _+_, _*_, _%_, _≤_, _<_}
+use mathlib.Core.Path.{_≡_, refl, sym, ap, _∙_, subst}
+use mathlib.Core.Bool.{Bool, true, false, _&&_, and-false}
+use mathlib.Core.List.{List, [], _∷_, _++_, append-assoc}
+use native.Mathlib.Omega.{arith}
+use lib.Dec.{leb, ltb, eqb}
+use lib.ListN.{length, getD, take, drop, set as put}
+use lib.Seq.{set-getD, take-at, drop-at}
+use borrow.Author.Tests.{leb-true, eqb-true, eq-eqb, ne-eqb}
+use Rattle.promise.proofs.Laws.{either}
+use Rattle.clock.specs.declared.reading.VirtualLocalTime.{VirtualLocalTime}
+use Rattle.clock.specs.declared.time.GlobalTime.{GlobalTime}
+use Rattle.clock.specs.declared.base.Held.{Held}
+use Rattle.clock.specs.declared.base.Held.the-variants.{Unset, Set}
+use Rattle.clock.specs.Reading.{spanOf}
+use Rattle.clock.specs.Base.{timeAt}
+use Rattle.clock.proofs.Laws.{advance-good}
+use Rattle.frame.specs.declared.data_ids.DataIds.{DataIds}
+use Rattle.frame.specs.declared.values.Protection.{Protection}
+use Rattle.frame.specs.declared.values.Protection.the-variants.{Plain, Secured}
+use Rattle.frame.specs.declared.values.Frame.{Frame}
+use Rattle.frame.specs.declared.values.Frame.the-variants.{Sync as sync, Fup as fup}
+use Rattle.frame_read.specs.declared.Read.{Read}
+use Rattle.frame_read.specs.declared.Read.the-variants.{LengthNot8, NoSuchType, Values}
+use Rattle.frame_read.specs.Read.{readOf}
+use Rattle.frame.specs.ByteTwo.{byteTwoOf}
+use Rattle.frame.specs.Ids.{idAt}
+use Rattle.frame_write.specs.Write.{flags, framedOf, bytesOf}
+use Rattle.frame_write.proofs.Laws.{bytes-length}
+use Rattle.refusal.specs.declared.Refusal.the-variants.{NoOpenSync, Ovs}
+use Rattle.settings.specs.declared.domain_settings.Role.{Role}
+use Rattle.settings.specs.declared.domain_settings.Role.the-variants.{Master}
+use Rattle.admission.specs.declared.Needed.the-variants.{Master as master}
+use Rattle.admission.specs.declared.Admission.{Admission}
+use Rattle.admission.specs.Reading.{isGoodReading}
+use Rattle.frame_admission.specs.declared.FrameAdmission.{FrameAdmission}
+use Rattle.frame_admission.specs.FrameAdmission.{domainIn, readFor}
+use Rattle.domain.specs.declared.Domain.{Domain}
+use Rattle.domain.specs.declared.Sending.{Sending}
+use Rattle.domain.specs.declared.Sending.the-variants.{Never, Open, Confirmed}
+use Rattle.master_rules.specs.declared.due.Due.{Due}
+use Rattle.master_rules.specs.declared.due.Due.the-variants.{At, No}
+use Rattle.master_rules.specs.Due.{isMaster, hasWaited, dueWith, dueOf}
+use Rattle.master_rules.proofs.Laws.{due-fits}
+use Rattle.master_follow.specs.declared.Follow.{Follow}
+use Rattle.master_follow.specs.declared.Follow.the-variants.{With, Refused as refused}
+use Rattle.master_follow.specs.Follow.{isOpenFor, wholeOf, ovsOf, followOf}
+use Rattle.master_set.specs.declared.SetStep.{SetStep}
+use Rattle.master_send.specs.Send.{sentOf, sendAs}
+use Rattle.master_confirm.specs.declared.ConfirmAnswer.{ConfirmAnswer}
+use Rattle.master_confirm.specs.Confirm.{confirmNumber, followedOf, confirmAs}
+use Rattle.call_frame.specs.FrameCall.{frameCallAs, frameCallOf}
+use Rattle.call_set.specs.SetCall.{setStepped, setCallAs, setCallOf}
+use Rattle.call_confirm.specs.declared.ConfirmCall.{ConfirmCall}
+use Rattle.call_confirm.specs.ConfirmCall.{withRoom, confirmAnswered, confirmCallAs, confirmCallOf, confirmBytes}
+use Rattle.round.specs.Records.{recordAt}
+use Rattle.round.specs.Round.{turnOf, framesBy, sentAfter, nextAfter, goes, pasted}
+use Rattle.node.specs.declared.Node.{Node}
+use Rattle.node_frame.specs.Frame.{addressedBy}
+use Rattle.node_cycle.specs.declared.NodeCycle.{NodeCycle}
+use Rattle.answers.specs.Cycle.{cycleCount}
+use Rattle.node_cycle.specs.Cycle.{isRoomFor, goneFrom, nodeCycleOf, cycleBytes}
+use Rattle.node_call.specs.Calls.{Call, frame, read, set, cycle, confirm, nodeAfter, follows as answers, answerTo}
+use Rattle.node_laws.specs.Good.{SentWithin, RoleGood, Good}
+use Rattle.node_laws.specs.Back.{Each, joined, IsEight}
+use Rattle.node_laws.proofs.Told.{either-told, both}
+use Rattle.node_laws.proofs.Admitted.{good-reading, by-admission, master-admitted}
+use Rattle.node_laws.proofs.Rounds.{AllGood, all-later, stored-good, turn-good, count-bound}
+use Rattle.node_laws.proofs.Cycles.{round-each, pasted-whole}
+use Rattle.history.specs.History.{Sent, readingOf, eights, givenBy, timeIn, noted}
+use Rattle.history.proofs.Placed.{placed}
+use Rattle.history.proofs.Row.{syncValues, fupValues}
+
+-- ---- what is told where a domain is due, and where a confirmation is answered
+
+pub record DueAt (period : ℕ) (base : Held) (sending : Sending) (t : VirtualLocalTime) : Type 0 where
+  pub waited : hasWaited period sending t ≡ true
+  pub seconds : timeIn base t .0 ≤ 4294967295
+  pub nanoseconds : timeIn base t .1 ≤ 999999999
+
+pub record OpenFor
+    (most : ℕ) (sending : Sending) (t : VirtualLocalTime) (counter : ℕ) (g : GlobalTime)
+    (at : VirtualLocalTime) : Type 0 where
+  pub held : sending ≡ Open counter (g .0) (g .1) at
+  pub soon : spanOf at t ≤ most
+  pub ovs : ovsOf g at t ≤ 3
+
+by-due :
+    (P : Due → Type 0) (role : Role) (p : ℕ) (base : Held) (s : Sending) (t : VirtualLocalTime) → P No →
+    (DueAt p base s t → P (At (timeIn base t .0) (timeIn base t .1))) → P (dueOf role p base s t)
+by-due P role p Unset s t not due = not
+by-due P role p (Set b) s t not due =
+    either-told P (dueWith role p (timeAt b t) s t)
+    (λ e.
+    due
+    (record {
+      waited = both (leb (timeAt b t .0) 4294967295 && isMaster role) (hasWaited p s t) e .1;
+      seconds = due-fits role p (timeAt b t) s t e;
+      nanoseconds = advance-good (b .time) (spanOf (b .at) t);
+    }))
+    (λ e. not)
+
+by-follow :
+    (P : Follow → Type 0) (c : ℕ) (s : Sending) (t : VirtualLocalTime) (counter : ℕ) → P (refused NoOpenSync) →
+    P (refused Ovs) →
+    ((g : GlobalTime) (at : VirtualLocalTime) → OpenFor c s t counter g at →
+    P (With (ovsOf g at t) (wholeOf g at t .1) at)) →
+    P (followOf c s t counter)
+by-follow P c Never t counter no-sync no-ovs with = no-sync
+by-follow P c (Open sent seconds nanoseconds at) t counter no-sync no-ovs with =
+    let g : GlobalTime = record { 0 = seconds; 1 = nanoseconds } in
+    either-told P (isOpenFor c sent at t counter)
+    (λ e.
+    let tests = both (eqb sent counter) (leb (spanOf at t) c) e in
+    either-told P (leb (ovsOf g at t) 3)
+    (λ low.
+    with g at
+    (record {
+      held = ap (λ (n : ℕ). Open n seconds nanoseconds at) (eqb-true sent counter (tests .0));
+      soon = leb-true _ _ (tests .1);
+      ovs = leb-true _ _ low;
+    }))
+    (λ high. no-ovs))
+    (λ e. no-sync)
+by-follow P c (Confirmed at) t counter no-sync no-ovs with = no-sync
+
+-- ---- the frames of a record at t: its SYNC, and the FUP of what it sent at `at` with time `from`
+abbrev pub syncOf : VirtualLocalTime → Domain → Frame
+syncOf t d = sync (syncValues (d .settings) (d .number) (d .«next_counter» % 16) (timeIn (d .base) t .0))
+
+abbrev pub fupOf : VirtualLocalTime → Domain → (counter : ℕ) (from : GlobalTime) (at : VirtualLocalTime) → Frame
+fupOf t d counter from at =
+    fup (fupValues (d .settings) (d .number) counter (ovsOf from at t) (wholeOf from at t .1))
+
+-- ---- what a call at t may do to a record and to what was sent in its domain, the newest first; g is the time that
+-- is noted
+module _ (t : VirtualLocalTime) (g : GlobalTime) where
+  abbrev pub sentAs : DataIds → Frame → Sent
+  sentAs ids f = record { bytes = bytesOf ids f; at = t; time = g }
+
+  pub data Moves : Domain → List Sent → Domain → List Sent → Type 0 where
+    stays :
+        (d e : Domain) (l : List Sent) → e .settings ≡ d .settings → e .sending ≡ d .sending →
+        e .«next_counter» ≡ d .«next_counter» → Moves d l e l
+    sends :
+        (d e : Domain) (l m : List Sent) → DueAt (d .settings .period) (d .base) (d .sending) t →
+        Moves (sentOf d (timeIn (d .base) t .0) (timeIn (d .base) t .1) t .domain)
+        (sentAs (d .settings .ids) (syncOf t d) ∷ l) e m →
+        Moves d l e m
+    follows :
+        (d : Domain) (l : List Sent) (counter : ℕ) (from : GlobalTime) (at : VirtualLocalTime) →
+        OpenFor (d .settings .«confirmation_time») (d .sending) t counter from at → at .0 ≤ t .0 →
+        Moves d l (followedOf d counter (ovsOf from at t) (wholeOf from at t .1) at .domain)
+        (sentAs (d .settings .ids) (fupOf t d counter from at) ∷ l)
+
+  unmoved : (d e : Domain) (l : List Sent) → e ≡ d → Moves d l e l
+  unmoved d e l p = rw p (stays d d l refl refl refl)
+
+-- ---- a frame names its domain; frames of 8 bytes, written one after another, are found again
+
+byte-two :
+    (plain secured : ℕ) (p : Protection) (two three word id : ℕ) →
+    getD (framedOf plain secured p two three word id) 2 0 ≡ two
+byte-two plain secured (Plain user) two three word id = refl
+byte-two plain secured Secured two three word id = refl
+
+addressed : (ids : DataIds) (f : Frame) → domainIn f < 16 → addressedBy (bytesOf ids f) ≡ domainIn f
+addressed ids (sync s) h =
+    omega (
+      arith,
+      byte-two 0x10 0x20 (s .protection) (byteTwoOf (s .domain) (s .counter)) (s .user0) (s .seconds)
+          (idAt (ids .sync) (s .counter)),
+    )
+addressed ids (fup f) h =
+    omega (
+      arith,
+      byte-two 0x18 0x28 (f .protection) (byteTwoOf (f .domain) (f .counter)) (flags (f .sgw) (f .ovs))
+          (f .nanoseconds) (idAt (ids .fup) (f .counter)),
+    )
+
+eights-back :
+    (frames : List (List ℕ)) (rest : List ℕ) → Each IsEight frames →
+    eights (length frames) (joined frames ++ rest) ≡ frames
+eights-back [] rest each = refl
+eights-back (f ∷ fs) rest each =
+    let split = append-assoc f (joined fs) rest in
+    λ i. (ap (take 8) split ∙ take-at f (joined fs ++ rest) 8 (each .0)) i
+    ∷ (ap (λ (l : List ℕ). eights (length fs) (drop 8 l)) split
+    ∙ ap (eights (length fs)) (drop-at f (joined fs ++ rest) 8 (each .0))
+    ∙ eights-back fs rest (each .1))
+    i
+
+module _ (i : ℕ) (below : i < 16) (t : VirtualLocalTime) (g : GlobalTime) where
+  -- ---- a frame of the domain is noted, another's is not
+
+  one-of :
+      (ids : DataIds) (f : Frame) (rest : List (List ℕ)) (l : List Sent) → domainIn f ≡ i →
+      noted i t g (bytesOf ids f ∷ rest) l ≡ noted i t g rest (sentAs t g ids f ∷ l)
+  one-of ids f rest l e = rw (eq-eqb (addressedBy (bytesOf ids f)) i (addressed ids f (omega arith) ∙ e))
+
+  none-of :
+      (ids : DataIds) (f : Frame) (rest : List (List ℕ)) (l : List Sent) → domainIn f < 16 → (domainIn f ≡ i → ⊥) →
+      noted i t g (bytesOf ids f ∷ rest) l ≡ noted i t g rest l
+  none-of ids f rest l h e = rw (ne-eqb (addressedBy (bytesOf ids f)) i (λ q. e (sym (addressed ids f h) ∙ q)))
+
+  -- ---- a turn of the main cycle
+
+  turn-here :
+      (may : Bool) (d e : Domain) (rest : List (List ℕ)) (l : List Sent) → d .number ≡ i →
+      ((m : List Sent) → Moves t g (turnOf may d t .domain) m e (noted i t g rest m)) →
+      Moves t g d l e (noted i t g (framesBy (turnOf may d t .answer) (d .settings .ids) ++ rest) l)
+  turn-here false d e rest l n next = next l
+  turn-here true d e rest l n next =
+      by-due
+      (λ (due : Due).
+      ((m : List Sent) → Moves t g (sendAs due d t .domain) m e (noted i t g rest m)) →
+      Moves t g d l e (noted i t g (framesBy (sendAs due d t .answer) (d .settings .ids) ++ rest) l))
+      (d .settings .role) (d .settings .period) (d .base) (d .sending) t
+      (λ next. next l)
+      (λ told next.
+      rw (one-of (d .settings .ids) (syncOf t d) rest l n)
+      (sends d e l _ told (next (sentAs t g (d .settings .ids) (syncOf t d) ∷ l))))
+      next
+
+  turn-there :
+      (may : Bool) (d : Domain) (rest : List (List ℕ)) (l : List Sent) → d .number < 16 → (d .number ≡ i → ⊥) →
+      noted i t g (framesBy (turnOf may d t .answer) (d .settings .ids) ++ rest) l ≡ noted i t g rest l
+  turn-there false d rest l h n = refl
+  turn-there true d rest l h n =
+      by-due
+      (λ (due : Due).
+      noted i t g (framesBy (sendAs due d t .answer) (d .settings .ids) ++ rest) l ≡ noted i t g rest l)
+      (d .settings .role) (d .settings .period) (d .base) (d .sending) t refl
+      (λ told. none-of (d .settings .ids) (syncOf t d) rest l h n)
+
+  goes-moves :
+      (k at sent most : ℕ) (ds : List Domain) (next : ℕ) (l : List Sent) → at < 16 → AllGood t ds →
+      Moves t g (recordAt ds i) l (recordAt (goes k at sent most t ds next .domains) i)
+      (noted i t g (goes k at sent most t ds next .frames) l)
+  unfolding goes
+  goes-moves zero at sent most ds next l a good = unmoved t g (recordAt ds i) (recordAt ds i) l refl
+  goes-moves (suc k) at sent most ds next l a good =
+      let d = recordAt ds at in
+      let s = turnOf (ltb sent most) d t in
+      let number = good .records at a .number in
+      let gone =
+      goes k ((at + 1) % 16) (sentAfter (s .answer) sent) most t (put ds at (s .domain)) (nextAfter (s .answer) at next)
+      in
+      let e = recordAt (gone .domains) i in
+      let m = noted i t g (framesBy (s .answer) (d .settings .ids) ++ gone .frames) l in
+      placed
+      (λ (x : Domain).
+      ((l : List Sent) → Moves t g x l e (noted i t g (gone .frames) l)) → Moves t g (recordAt ds i) l e m)
+      ds at i (s .domain) (omega (arith, good .sixteen))
+      (λ same rest.
+      subst (λ (x : Domain). Moves t g x l e m) (ap (recordAt ds) same)
+      (turn-here (ltb sent most) d e (gone .frames) l (number ∙ same) rest))
+      (λ apart rest.
+      rw (turn-there (ltb sent most) d (gone .frames) l (omega (arith, number)) (λ q. apart (sym number ∙ q))) (rest l))
+      (λ l.
+      goes-moves k ((at + 1) % 16) (sentAfter (s .answer) sent) most (put ds at (s .domain))
+      (nextAfter (s .answer) at next) l (omega arith)
+      (stored-good t ds at (s .domain) a good (turn-good (ltb sent most) at t d (good .records at a))))
+
+-- ---- a call
+
+-- a master takes no frame
+frame-refused :
+    (r : Read) (own : ℕ) (role : Role) (d : Domain) (kept t : VirtualLocalTime) (bytes : List ℕ) → role ≡ Master →
+    frameCallAs (readFor r own role) d kept t bytes .domain ≡ d
+frame-refused LengthNot8 own role d kept t bytes e = refl
+frame-refused NoSuchType own role d kept t bytes e = refl
+frame-refused (Values values) own role d kept t bytes e = rw (e, and-false (eqb (domainIn values) own))
+
+module _ (n : Node) (good : Good n) (i : ℕ) (below : i < 16) (role : recordAt (n .domains) i .settings .role ≡ Master)
+    (g : GlobalTime) (l : List Sent) where
+  abbrev d : Domain
+  d = recordAt (n .domains) i
+
+  there : i < length (n .domains)
+  there = omega (arith, good .sixteen)
+
+  as-it-was : (t : VirtualLocalTime) → Moves t g d l d l
+  as-it-was t = stays d d l refl refl refl
+
+  -- ---- a frame
+  frame-moves : (t : VirtualLocalTime) (bytes : List ℕ) → Moves t g d l (frameCallOf d (n .kept) t bytes .domain) l
+  frame-moves t bytes =
+      unmoved t g d _ l
+      (either (λ (a : FrameAdmission). frameCallAs a d (n .kept) t bytes .domain ≡ d) (isGoodReading (n .kept) t)
+      (frame-refused (readOf bytes) (d .number) (d .settings .role) d (n .kept) t bytes role) refl)
+
+  -- ---- a set
+  set-moves :
+      (t : VirtualLocalTime) (asked s ns : ℕ) → Moves t g d l (setCallOf d (n .kept) asked t s ns .domain) l
+  set-moves t asked s ns =
+      by-admission (λ (a : Admission). Moves t g d l (setCallAs a d (n .kept) t s ns .domain) l) (n .kept) t
+      (d .number) (d .settings .role) asked master
+      (λ tested.
+      either (λ (x : SetStep). Moves t g d l (setStepped x (n .kept) t .domain) l) (leb ns 999999999)
+      (stays d _ l refl refl refl) (as-it-was t))
+      (as-it-was t) (as-it-was t)
+
+  -- ---- a main cycle
+  module _ (t : VirtualLocalTime) (out : List ℕ) where
+    abbrev CycleMoves : NodeCycle → Type 0
+    CycleMoves r =
+        Moves t g d l (recordAt (r .node .domains) i)
+        (noted i t g (eights (cycleCount (r .answer)) (cycleBytes (r .answer) n t out)) l)
+
+    abbrev sent : List (List ℕ)
+    sent = goneFrom n t .frames
+
+    found : isRoomFor n (length out) ≡ true → eights (length sent) (pasted 0 sent out) ≡ sent
+    found room =
+        let each =
+        round-each IsEight (n .«syncs_per_cycle») t (n .domains)
+        (λ i h s e. bytes-length (recordAt (n .domains) i .settings .ids) (sync s)) (n .round)
+        in
+        let fits : 8 * length sent ≤ length out =
+        omega (
+          arith,
+          leb-true (8 * n .«syncs_per_cycle») (length out) room,
+          count-bound (n .domains) (n .round) t (n .«syncs_per_cycle»),
+        )
+        in
+        ap (eights (length sent)) (pasted-whole sent out each fits) ∙ eights-back sent (drop (8 * length sent) out) each
+
+    cycle-moves : CycleMoves (nodeCycleOf n t (length out))
+    cycle-moves =
+        either-told CycleMoves (isGoodReading (n .kept) t)
+        (λ e.
+        either-told CycleMoves (isRoomFor n (length out))
+        (λ room.
+        rw (found room)
+        (goes-moves i below t g 16 (n .round % 16) 0 (n .«syncs_per_cycle») (n .domains) (n .round) l (omega arith)
+        (all-later (n .kept) t (n .domains) (good-reading (n .kept) t e .0)
+        (record { sixteen = good .sixteen; records = good .records }))))
+        (λ e. as-it-was t))
+        (λ e. as-it-was t)
+
+  -- ---- a confirmation, of this domain or another
+  module _ (asked : ℕ) (t : VirtualLocalTime) (counter : ℕ) (out : List ℕ) where
+    abbrev c : Domain
+    c = recordAt (n .domains) (asked % 16)
+
+    abbrev ConfirmMoves : ConfirmCall → Type 0
+    ConfirmMoves r =
+        Moves t g d l (recordAt (put (n .domains) (asked % 16) (r .domain)) i)
+        (noted i t g
+        (givenBy (answers (confirmNumber (r .answer)) (confirmBytes (r .answer) (c .settings .ids) out))) l)
+
+    kept-here : Moves t g d l (recordAt (put (n .domains) (asked % 16) c) i) l
+    kept-here =
+        unmoved t g d _ l (ap (λ (ds : List Domain). recordAt ds i) (set-getD (n .domains) (asked % 16) _))
+
+    sent-before :
+        (from : GlobalTime) (at : VirtualLocalTime) → c .settings .role ≡ Master →
+        c .sending ≡ Open counter (from .0) (from .1) at → at .0 ≤ n .kept .0
+    sent-before from at is e =
+        let m = subst (λ (r : Role). RoleGood r (n .kept) c) is (good .records (asked % 16) (omega arith) .role) in
+        subst (SentWithin (n .kept) (c .base) (c .«next_counter»)) e (m .sent) .5
+
+    abbrev Answered : Domain → ConfirmAnswer → Type 0
+    Answered after a = ConfirmMoves (confirmAnswered a after c (n .kept) t)
+
+    followed :
+        (from : GlobalTime) (at : VirtualLocalTime) →
+        OpenFor (c .settings .«confirmation_time») (c .sending) t counter from at → at .0 ≤ t .0 →
+        let step = followedOf c counter (ovsOf from at t) (wholeOf from at t .1) at in
+        Answered (step .domain) (withRoom (step .answer) (length out))
+    followed from at told late =
+        let step = followedOf c counter (ovsOf from at t) (wholeOf from at t .1) at in
+        let ids = c .settings .ids in
+        let f = fupOf t c counter from at in
+        let number = good .records (asked % 16) (omega arith) .number in
+        let m = noted i t g (bytesOf ids f ∷ []) l in
+        either (Answered (step .domain)) (leb 8 (length out))
+        (rw (take-at (bytesOf ids f) (drop 8 out) 8 (bytes-length ids f))
+        (placed (λ (x : Domain). Moves t g d l x m) (n .domains) (asked % 16) i (step .domain) there
+        (λ same.
+        rw (one-of i below t g ids f [] l (number ∙ same))
+        (subst (λ (x : Domain). Moves t g x l (step .domain) (sentAs t g ids f ∷ l)) (ap (recordAt (n .domains)) same)
+        (follows c l counter from at told late)))
+        (λ apart.
+        rw (none-of i below t g ids f [] l (omega (arith, number)) (λ q. apart (sym number ∙ q)))
+        (as-it-was t))))
+        kept-here
+
+    confirm-moves : ConfirmMoves (confirmCallOf c (n .kept) asked t counter (length out))
+    confirm-moves =
+        by-admission (λ (a : Admission). ConfirmMoves (confirmCallAs a c (n .kept) t counter (length out))) (n .kept) t
+        (c .number) (c .settings .role) asked master
+        (λ tested.
+        by-follow
+        (λ (f : Follow).
+        Answered (confirmAs f c counter .domain) (withRoom (confirmAs f c counter .answer) (length out)))
+        (c .settings .«confirmation_time») (c .sending) t counter
+        (either (Answered c) (leb 8 (length out)) kept-here kept-here)
+        (either (Answered c) (leb 8 (length out)) kept-here kept-here)
+        (λ from at told.
+        let before = sent-before from at (master-admitted (c .settings .role) (tested .in-role)) (told .held) in
+        followed from at told (omega (arith, tested .not-before))))
+        kept-here kept-here
+
+  -- ---- any call
+  pub master-moves :
+      (x : Call) →
+      Moves (readingOf x) g (recordAt (n .domains) i) l (recordAt (nodeAfter n x .domains) i)
+      (noted i (readingOf x) g (givenBy (answerTo n x)) l)
+  master-moves (frame t bytes) =
+      placed (λ (x : Domain). Moves t g d l x l) (n .domains) (addressedBy bytes) i _ there
+      (λ same. rw same (frame-moves t bytes)) (λ apart. as-it-was t)
+  master-moves (read asked t) = as-it-was t
+  master-moves (set asked t s ns) =
+      placed (λ (x : Domain). Moves t g d l x l) (n .domains) (asked % 16) i _ there
+      (λ same. rw same (set-moves t asked s ns)) (λ apart. as-it-was t)
+  master-moves (cycle t out) = cycle-moves t out
+  master-moves (confirm asked t counter out) = confirm-moves asked t counter out

@@ -1,0 +1,196 @@
+-- Demand 3, word for word, as hypotheses over a history and three statements. Assumes nothing.
+use Prim.Native.Nat.{ℕ, _+_, _*_, _≤_, _<_}
+use mathlib.Core.Path.{_≡_}
+use mathlib.Core.Bool.{true, cond}
+use mathlib.Core.List.{List, [], _∷_, _++_, map}
+use lib.Dec.{leb}
+use Rattle.clock.specs.declared.reading.VirtualLocalTime.{VirtualLocalTime}
+use Rattle.clock.specs.declared.base.TimeBase.{TimeBase}
+use Rattle.clock.specs.declared.base.Held.the-variants.{Set}
+use Rattle.clock.specs.Reading.{isReading, spanOf}
+use Rattle.clock.specs.Time.{advanced}
+use Rattle.clock.specs.Base.{baseOf}
+use Rattle.frame.specs.declared.data_ids.DataIds.{DataIds}
+use Rattle.check_mode.specs.declared.CheckMode.{CheckMode}
+use Rattle.check_mode.specs.declared.CheckMode.the-variants.{Validated, NotValidated, Ignored, Optional}
+use Rattle.check_mode.specs.Check.{takesPlain}
+use Rattle.settings.specs.declared.domain_settings.Role.the-variants.{Slave, Master}
+use Rattle.settings.specs.declared.domain_settings.Security.{Security}
+use Rattle.settings.specs.declared.domain_settings.Security.the-variants.{Plain, Secured}
+use Rattle.node_settings.specs.declared.Verdict.the-variants.{Good}
+use Rattle.node_settings.specs.Node.{judgedOf}
+use Rattle.domain.specs.Updates.{nextUpdate}
+use Rattle.node_call.specs.Calls.{Call, frame, numbered, answerTo}
+use Rattle.node_laws.specs.Reachable.{IsCall, IsSettings}
+use Rattle.history.specs.History.{
+  Link,
+  masterSettings,
+  slaveSettings,
+  onMaster,
+  onSlave,
+  Event,
+  atMaster,
+  atSlave,
+  History,
+  readingOf,
+  slaveAfter,
+  slaveRecord,
+  Sent,
+  sentIn,
+  isHeard,
+  Heard,
+  heardBy,
+  heardIn,
+  In,
+  isFup,
+  isSync,
+}
+
+-- ---- "Take one master and one fresh slave": good settings, the domain the master's in one and the slave's in
+-- the other
+pub record Linked (k : Link) : Type 0 where
+  pub domain : k .domain < 16
+  pub masters : IsSettings (k .master)
+  pub slaves : IsSettings (k .slave)
+  pub master-good : judgedOf (k .master) ≡ Good
+  pub slave-good : judgedOf (k .slave) ≡ Good
+  pub master : masterSettings k .role ≡ Master
+  pub slave : slaveSettings k .role ≡ Slave
+
+-- ---- "set so that the slave reads the master's frames"
+abbrev pub ReadsAs : Security → CheckMode → (master slave : DataIds) → Type 0
+ReadsAs Plain mode master slave = takesPlain mode ≡ true
+ReadsAs Secured Validated master slave = master ≡ slave
+ReadsAs Secured NotValidated master slave = ⊥
+ReadsAs Secured Ignored master slave = Unit {0}
+ReadsAs Secured Optional master slave = master ≡ slave
+
+abbrev pub Reads : Link → Type 0
+Reads k =
+    ReadsAs (masterSettings k .security) (slaveSettings k .mode) (masterSettings k .ids) (slaveSettings k .ids)
+
+-- ---- calls as their arguments' types say
+abbrev pub callOf : Event → Call
+callOf (atMaster c) = c
+callOf (atSlave c) = c
+
+abbrev pub AreCalls : History → Type 0
+AreCalls [] = Unit {0}
+AreCalls (x ∷ h) = AreCalls h × IsCall (callOf x)
+
+-- ---- "the slave reads the master's frames": each of them is heard wherever it is handed in
+abbrev pub EachFrameHeard : Type 0
+EachFrameHeard =
+    (k : Link) → Linked k → Reads k → (h : History) → AreCalls h → (s : Sent) → In s (sentIn k h) →
+    isHeard k (s .bytes) ≡ true
+
+-- ---- "with clocks of equal rate, in range, that never step back": "put on one scale .., the readings never fall
+-- along the history"
+abbrev pub InRange : History → Type 0
+InRange [] = Unit {0}
+InRange (x ∷ h) = InRange h × (isReading (readingOf (callOf x)) ≡ true)
+
+abbrev pub momentOf : Link → Event → ℕ
+momentOf k (atMaster c) = onMaster k (readingOf c)
+momentOf k (atSlave c) = onSlave k (readingOf c)
+
+abbrev pub now : Link → History → ℕ
+now k [] = 0
+now k (x ∷ h) = momentOf k x
+
+abbrev pub NeverFall : Link → History → Type 0
+NeverFall k [] = Unit {0}
+NeverFall k (x ∷ h) = NeverFall k h × (now k h ≤ momentOf k x)
+
+-- ---- "Nobody else sends in the domain, and no frame from before the master's setting up is still on its way.
+-- The bus may lose, repeat and reorder frames, but no copy comes before its sending or more than E after it"
+pub record CopyIn (k : Link) (before : History) (x : Heard) : Type 0 where
+  pub of : Sent
+  pub sent : In of (sentIn k before)
+  pub same : x .bytes ≡ of .bytes
+  pub soon : onSlave k (x .at) ≤ onMaster k (of .at) + k .e
+
+abbrev pub Carried : Link → History → Type 0
+Carried k [] = Unit {0}
+Carried k (atMaster c ∷ h) = Carried k h
+Carried k (atSlave c ∷ h) = Carried k h × ((x : Heard) → In x (heardBy k c) → CopyIn k h x)
+
+-- ---- "16 sending periods exceed E plus the follow-up time and E plus the confirmation time"
+pub record Exceed (k : Link) : Type 0 where
+  pub follow-up : k .e + slaveSettings k .«follow_up_time» < 16 * masterSettings k .period
+  pub confirmation : k .e + masterSettings k .«confirmation_time» < 16 * masterSettings k .period
+
+-- ---- "each time the slave holds is the time one SYNC was sent with, carried on to its confirmation and tied to
+-- the slave's reading at a copy of that SYNC": its confirmation gives the FUP that the domain sends next after it
+pub record TimeOfOne (k : Link) (h : History) (b : TimeBase) : Type 0 where
+  pub sync : Sent
+  pub fup : Sent
+  pub newer : List Sent
+  pub older : List Sent
+  pub sent : sentIn k h ≡ newer ++ (fup ∷ sync ∷ older)
+  pub is-sync : isSync sync ≡ true
+  pub is-fup : isFup fup ≡ true
+  pub time : b .time ≡ advanced (sync .time) (spanOf (sync .at) (fup .at))
+  pub after : History
+  pub before : History
+  pub copy : h ≡ after ++ (atSlave (frame (b .at) (sync .bytes)) ∷ before)
+  pub copied : In sync (sentIn k before)
+
+abbrev pub EachTimeHeld : Type 0
+EachTimeHeld =
+    (k : Link) → Linked k → Exceed k → (h : History) → AreCalls h → NeverFall k h → Carried k h →
+    (b : TimeBase) → slaveRecord k h .base ≡ Set b → TimeOfOne k h b
+
+-- ---- "from some moment": sent, or heard, at it or later
+abbrev pub sentSince : Link → (moment : ℕ) → List Sent → List Sent
+sentSince k moment [] = []
+sentSince k moment (s ∷ older) =
+    cond (leb moment (onMaster k (s .at))) (s ∷ sentSince k moment older) (sentSince k moment older)
+
+abbrev pub heardSince : Link → (moment : ℕ) → List Heard → List Heard
+heardSince k moment [] = []
+heardSince k moment (s ∷ older) =
+    cond (leb moment (onSlave k (s .at))) (s ∷ heardSince k moment older) (heardSince k moment older)
+
+-- ---- "only newly sent frames arrive, all of them, once and in order": what is heard are copies of what is sent,
+-- one of each, but for those sent last, which are under way
+pub record Copy : Type 0 where
+  pub of : Sent
+  pub at : VirtualLocalTime
+
+abbrev pub sendings : List Copy → List Sent
+sendings = map (λ (c : Copy). c .of)
+
+abbrev pub arrivals : List Copy → List Heard
+arrivals = map (λ (c : Copy). record { bytes = c .of .bytes; at = c .at })
+
+pub record Orderly (k : Link) (moment : ℕ) (h : History) : Type 0 where
+  pub under-way : List Sent
+  pub copies : List Copy
+  pub all : sentSince k moment (sentIn k h) ≡ under-way ++ sendings copies
+  pub only : heardSince k moment (heardIn k h) ≡ arrivals copies
+
+-- ---- "is taken": the call that hands in the FUP answers 0, the base is that pair's, the update counter one up
+pub record Taken (k : Link) (moment : ℕ) (h : History) (fup sync : Copy) (older : List Copy) : Type 0 where
+  pub after : History
+  pub before : History
+  pub call : h ≡ after ++ (atSlave (frame (fup .at) (fup .of .bytes)) ∷ before)
+  pub next : heardSince k moment (heardIn k before) ≡ arrivals (sync ∷ older)
+  pub number : answerTo (slaveAfter k before) (frame (fup .at) (fup .of .bytes)) ≡ numbered 0
+  pub base :
+      slaveRecord k (atSlave (frame (fup .at) (fup .of .bytes)) ∷ before) .base
+      ≡ Set (baseOf (advanced (sync .of .time) (spanOf (sync .of .at) (fup .of .at))) (sync .at))
+  pub updates :
+      slaveRecord k (atSlave (frame (fup .at) (fup .of .bytes)) ∷ before) .updates
+      ≡ nextUpdate (slaveRecord k before .updates)
+
+-- ---- "each FUP within the follow-up time of its SYNC's arrival, then every confirmed pair whose SYNC arrives more
+-- than the loss time after that moment is taken"
+abbrev pub EachPairTaken : Type 0
+EachPairTaken =
+    (k : Link) → Linked k → (h : History) → AreCalls h → NeverFall k h → InRange h →
+    (moment : ℕ) → (o : Orderly k moment h) →
+    (newer older : List Copy) (fup sync : Copy) → o .copies ≡ newer ++ (fup ∷ sync ∷ older) →
+    isFup (fup .of) ≡ true → spanOf (sync .at) (fup .at) ≤ slaveSettings k .«follow_up_time» →
+    moment + slaveSettings k .«loss_time» ≤ onSlave k (sync .at) →
+    Taken k moment h fup sync older

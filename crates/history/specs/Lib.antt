@@ -1,0 +1,3 @@
+-- The definitions of `history`, in the order to read them. Assumes nothing.
+pub mod History
+pub mod Demand

@@ -1,0 +1,127 @@
+-- Demand 3's first sentence says "exceed" of two sums, and needs it of each: antt computes a history where 16
+-- sending periods only equal the one, and one where they only equal the other. And the last sentence does not hold
+-- a nanosecond earlier. No contract cites this file.
+--   under-exceed           the sentence gives the sentence under "exceed"
+--   wrong-under            a wrong time that is held refutes the sentence under any condition that its link meets
+--   follow-up-equal        16 periods equal E plus the follow-up time
+--   follow-up-wrong        the slave holds a wrong time there
+--   follow-up-exceeded     so the sentence is false where they need only reach that sum
+--   confirmation-equal     16 periods equal E plus the confirmation time
+--   confirmation-wrong     the slave holds a wrong time there
+--   confirmation-exceeded  so the sentence is false where they need only reach that sum
+--   loss-met               the last sentence's hypotheses hold of a pair, but for the moment of its SYNC
+--   loss-one-earlier       that is a nanosecond before the moment plus L
+--   loss-not-taken         and the pair is not taken
+--   loss-exceeded          so the sentence is false from a nanosecond earlier on
+-- Assumes nothing.
+use Prim.Native.Nat.{_+_, _*_}
+use mathlib.Core.Path.{_≡_, refl, sym, ap, _∙_}
+use mathlib.Core.Bool.{true}
+use mathlib.Core.List.{[], _∷_}
+use native.Mathlib.Omega.{arith}
+use Rattle.clock.specs.declared.base.TimeBase.{TimeBase}
+use Rattle.round.specs.Round.{goes}
+use Rattle.history.specs.History.{Link, masterSettings, slaveSettings, onSlave, History}
+use Rattle.history.specs.Demand.{Linked, Exceed, EachTimeHeld, Taken}
+use Rattle.history_day.specs.Met.{PairMet, TakenFrom, HeldUnder, ReachFollowUp, ReachConfirmation, WrongHeld}
+use Rattle.history_day.specs.Edges.{
+  followUpLink,
+  followUpEdge,
+  followUpBase,
+  confirmationLink,
+  confirmationEdge,
+  confirmationBase,
+  lossLink,
+  lossMoment,
+  lossSync,
+  lossFup,
+  lossEdge,
+}
+use Rattle.history_day.proofs.Tests.{linked-by, fair, held-met, not-of-one, neverSet, never-set}
+
+pub under-exceed : EachTimeHeld → HeldUnder Exceed
+under-exceed each k exceed h fair b holds =
+    held-met k h b (record { fair = fair; exceed = exceed; holds = holds }) each
+
+pub wrong-under :
+    (Condition : Link → Type 0) (k : Link) (h : History) (b : TimeBase) → Condition k → WrongHeld k h b →
+    HeldUnder Condition → ⊥
+wrong-under Condition k h b met w each = w .wrong (each k met h (w .fair) b (w .holds))
+
+-- ---- E plus the follow-up time
+pub follow-up-equal :
+    followUpLink .e + slaveSettings followUpLink .«follow_up_time» ≡ 16 * masterSettings followUpLink .period
+follow-up-equal = refl
+
+follow-up-linked : Linked followUpLink
+follow-up-linked = linked-by _ (omega arith) refl refl refl refl refl refl
+
+pub follow-up-wrong : WrongHeld followUpLink followUpEdge followUpBase
+unfolding goes
+follow-up-wrong =
+    record {
+      fair = fair followUpLink follow-up-linked refl followUpEdge refl;
+      holds = refl;
+      wrong = not-of-one followUpLink followUpEdge followUpBase refl;
+    }
+
+pub follow-up-exceeded : HeldUnder ReachFollowUp → ⊥
+follow-up-exceeded =
+    wrong-under ReachFollowUp followUpLink followUpEdge followUpBase
+    (record { follow-up = omega arith; confirmation = omega arith })
+    follow-up-wrong
+
+-- ---- E plus the confirmation time
+pub confirmation-equal :
+    confirmationLink .e + masterSettings confirmationLink .«confirmation_time»
+    ≡ 16 * masterSettings confirmationLink .period
+confirmation-equal = refl
+
+confirmation-linked : Linked confirmationLink
+confirmation-linked = linked-by _ (omega arith) refl refl refl refl refl refl
+
+pub confirmation-wrong : WrongHeld confirmationLink confirmationEdge confirmationBase
+unfolding goes
+confirmation-wrong =
+    record {
+      fair = fair confirmationLink confirmation-linked refl confirmationEdge refl;
+      holds = refl;
+      wrong = not-of-one confirmationLink confirmationEdge confirmationBase refl;
+    }
+
+pub confirmation-exceeded : HeldUnder ReachConfirmation → ⊥
+confirmation-exceeded =
+    wrong-under ReachConfirmation confirmationLink confirmationEdge confirmationBase
+    (record { follow-up = omega arith; confirmation = omega arith })
+    confirmation-wrong
+
+-- ---- the loss time
+loss-linked : Linked lossLink
+loss-linked = linked-by _ (omega arith) refl refl refl refl refl refl
+
+pub loss-met : PairMet lossLink lossEdge lossMoment [] lossFup lossSync []
+unfolding goes
+loss-met =
+    record {
+      fair = fair lossLink loss-linked refl lossEdge refl;
+      orderly = record { under-way = []; copies = lossFup ∷ lossSync ∷ []; all = refl; only = refl };
+      copies = refl;
+      is-fup = refl;
+      soon = omega arith;
+    }
+
+pub loss-one-earlier :
+    lossMoment + slaveSettings lossLink .«loss_time» ≡ onSlave lossLink (lossSync .at) + 1
+loss-one-earlier = refl
+
+loss-never-set : neverSet lossLink lossEdge ≡ true
+unfolding goes
+loss-never-set = refl
+
+pub loss-not-taken : Taken lossLink lossMoment lossEdge lossFup lossSync [] → ⊥
+loss-not-taken t =
+    never-set lossLink (t .after) _ (t .before) _ (ap (neverSet lossLink) (sym (t .call)) ∙ loss-never-set) (t .base)
+
+pub loss-exceeded : TakenFrom 1 → ⊥
+loss-exceeded each =
+    loss-not-taken (each lossLink lossEdge lossMoment [] lossFup lossSync [] loss-met (omega (arith, loss-one-earlier)))

@@ -1,0 +1,234 @@
+-- What demand 3 asks of a history, as tests that antt computes, and what the two sentences then say. No contract
+-- cites this file.
+--   linked-by   a link, from its parts
+--   fair        a history that passes the test at each of its calls is fair
+--   held-met    what is gathered of the first sentence is all that it asks
+--   taken-met   what is gathered of the last sentence is all that it asks, but for the moment
+--   never-set   a base that is unset after each part of a history was never set
+--   not-of-one  a time that no FUP gives with the SYNC before it is of no SYNC
+-- Assumes nothing.
+use Prim.Native.Nat.{ℕ, _+_, _<_}
+use mathlib.Core.Path.{_≡_, refl, sym, ap, subst, _∙_}
+use mathlib.Core.Logic.{inl, inr, ⊎-elim}
+use mathlib.Core.Bool.{Bool, true, false, _&&_, _||_, or-true, true≢false, false≢true}
+use mathlib.Core.List.{List, [], _∷_, _++_}
+use native.Mathlib.Omega.{arith}
+use lib.Dec.{eqb, leb}
+use borrow.Author.Tests.{eqb-true, leb-true, eq-eqb}
+use Rattle.clock.specs.declared.base.TimeBase.{TimeBase}
+use Rattle.clock.specs.declared.base.Held.{Held}
+use Rattle.clock.specs.declared.base.Held.the-variants.{Unset, Set}
+use Rattle.clock.specs.declared.time.GlobalTime.{GlobalTime}
+use Rattle.clock.specs.Reading.{isReading, spanOf}
+use Rattle.clock.specs.Time.{advanced}
+use Rattle.node_laws.proofs.Told.{both}
+use Rattle.node_laws.proofs.Witness.{isCall, is-call}
+use Rattle.settings.specs.declared.domain_settings.Role.the-variants.{Slave, Master}
+use Rattle.node_settings.specs.declared.Verdict.the-variants.{Good}
+use Rattle.node_settings.specs.Node.{judgedOf}
+use Rattle.node_laws.specs.Reachable.{IsSettings}
+use Rattle.history.specs.History.{
+  masterSettings,
+  slaveSettings,
+  slaveRecord,
+  Link,
+  onMaster,
+  onSlave,
+  Event,
+  atMaster,
+  atSlave,
+  History,
+  readingOf,
+  Sent,
+  sentIn,
+  Heard,
+  heardBy,
+  In,
+  isFup,
+}
+use Rattle.history.specs.Demand.{
+  Linked,
+  Reads,
+  callOf,
+  momentOf,
+  now,
+  CopyIn,
+  Carried,
+  TimeOfOne,
+  EachTimeHeld,
+  EachPairTaken,
+}
+use Rattle.history_day.specs.Met.{Fair, HeldMet, TakenFrom}
+
+-- ---- a heard frame is a copy of one of the frames sent
+abbrev same : List ℕ → List ℕ → Bool
+same [] [] = true
+same [] (b ∷ m) = false
+same (a ∷ l) [] = false
+same (a ∷ l) (b ∷ m) = eqb a b && same l m
+
+same-true : (l m : List ℕ) → same l m ≡ true → l ≡ m
+same-true [] [] e = refl
+same-true [] (b ∷ m) e = cc
+same-true (a ∷ l) [] e = cc
+same-true (a ∷ l) (b ∷ m) e =
+    let told = both (eqb a b) (same l m) e in
+    let head : a ≡ b = eqb-true a b (told .0) in
+    let tail : l ≡ m = same-true l m (told .1) in
+    cc
+
+abbrev isCopy : Link → Heard → Sent → Bool
+isCopy k x s = same (x .bytes) (s .bytes) && leb (onSlave k (x .at)) (onMaster k (s .at) + k .e)
+
+abbrev isOfOne : Link → Heard → List Sent → Bool
+isOfOne k x [] = false
+isOfOne k x (s ∷ older) = isCopy k x s || isOfOne k x older
+
+of-one :
+    (k : Link) (before : History) (x : Heard) (l : List Sent) → ((s : Sent) → In s l → In s (sentIn k before)) →
+    isOfOne k x l ≡ true → CopyIn k before x
+of-one k before x [] within e = absurd (false≢true e)
+of-one k before x (s ∷ older) within e =
+    go (isCopy k x s) refl (of-one k before x older (λ z i. within z (inr i))) e
+  where
+    go :
+        (b : Bool) → isCopy k x s ≡ b → (isOfOne k x older ≡ true → CopyIn k before x) →
+        (b || isOfOne k x older) ≡ true → CopyIn k before x
+    go true c later e =
+        let told = both (same (x .bytes) (s .bytes)) (leb (onSlave k (x .at)) (onMaster k (s .at) + k .e)) c in
+        record {
+          of = s;
+          sent = within s (inl refl);
+          same = same-true (x .bytes) (s .bytes) (told .0);
+          soon = leb-true _ _ (told .1);
+        }
+    go false c later e = later e
+
+abbrev areOfOne : Link → List Heard → List Sent → Bool
+areOfOne k [] sent = true
+areOfOne k (x ∷ rest) sent = isOfOne k x sent && areOfOne k rest sent
+
+each-of-one :
+    (k : Link) (before : History) (l : List Heard) → areOfOne k l (sentIn k before) ≡ true →
+    (x : Heard) → In x l → CopyIn k before x
+each-of-one k before [] e x i = absurd i
+each-of-one k before (y ∷ l) e x i =
+    let told = both (isOfOne k y (sentIn k before)) (areOfOne k l (sentIn k before)) e in
+    let copy = of-one k before y (sentIn k before) (λ s j. j) (told .0) in
+    ⊎-elim
+    (λ (p : x ≡ y). subst (λ (z : Heard). CopyIn k before z) (sym p) copy)
+    (λ j. each-of-one k before l (told .1) x j)
+    i
+
+abbrev isCarried : Link → Event → History → Bool
+isCarried k (atMaster c) h = true
+isCarried k (atSlave c) h = areOfOne k (heardBy k c) (sentIn k h)
+
+carried-on : (k : Link) (x : Event) (h : History) → isCarried k x h ≡ true → Carried k h → Carried k (x ∷ h)
+carried-on k (atMaster c) h e before = before
+carried-on k (atSlave c) h e before = (before, each-of-one k h (heardBy k c) e)
+
+-- ---- the test of each call
+abbrev fits : Link → Event → History → Bool
+fits k x h =
+    isCall (callOf x)
+    && leb (now k h) (momentOf k x)
+    && isReading (readingOf (callOf x))
+    && isCarried k x h
+
+abbrev pub allFit : Link → History → Bool
+allFit k [] = true
+allFit k (x ∷ h) = allFit k h && fits k x h
+
+pub linked-by :
+    (k : Link) → k .domain < 16 → IsSettings (k .master) → IsSettings (k .slave) → judgedOf (k .master) ≡ Good →
+    judgedOf (k .slave) ≡ Good → masterSettings k .role ≡ Master → slaveSettings k .role ≡ Slave → Linked k
+linked-by k domain masters slaves master-good slave-good master slave =
+    record {
+      domain = domain;
+      masters = masters;
+      slaves = slaves;
+      master-good = master-good;
+      slave-good = slave-good;
+      master = master;
+      slave = slave;
+    }
+
+pub fair : (k : Link) → Linked k → Reads k → (h : History) → allFit k h ≡ true → Fair k h
+fair k linked reads [] e =
+    record { linked = linked; reads = reads; calls = tt; never-fall = tt; in-range = tt; carried = tt }
+fair k linked reads (x ∷ h) e =
+    let told = both (allFit k h) (fits k x h) e in
+    let four = both _ (isCarried k x h) (told .1) in
+    let three = both _ (isReading (readingOf (callOf x))) (four .0) in
+    let two = both (isCall (callOf x)) (leb (now k h) (momentOf k x)) (three .0) in
+    let before = fair k linked reads h (told .0) in
+    record {
+      linked = linked;
+      reads = reads;
+      calls = (before .calls, is-call (callOf x) (two .0));
+      never-fall = (before .never-fall, leb-true _ _ (two .1));
+      in-range = (before .in-range, three .1);
+      carried = carried-on k x h (four .1) (before .carried);
+    }
+
+-- ---- the two sentences
+pub held-met : (k : Link) (h : History) (b : TimeBase) → HeldMet k h b → EachTimeHeld → TimeOfOne k h b
+held-met k h b m each =
+    each k (m .fair .linked) (m .exceed) h (m .fair .calls) (m .fair .never-fall) (m .fair .carried) b (m .holds)
+
+pub taken-met : EachPairTaken → TakenFrom 0
+taken-met each k h moment newer fup sync older m late =
+    each k (m .fair .linked) h (m .fair .calls) (m .fair .never-fall) (m .fair .in-range) moment (m .orderly)
+    newer older fup sync (m .copies) (m .is-fup) (m .soon) (omega arith)
+
+-- ---- a FUP and the SYNC before it give the time
+abbrev isTime : GlobalTime → GlobalTime → Bool
+isTime g g′ = eqb (g .0) (g′ .0) && eqb (g .1) (g′ .1)
+
+is-time : (g g′ : GlobalTime) → g ≡ g′ → isTime g g′ ≡ true
+is-time g g′ p =
+    let seconds = eq-eqb (g .0) (g′ .0) (ap (λ (x : GlobalTime). x .0) p) in
+    let nanoseconds = eq-eqb (g .1) (g′ .1) (ap (λ (x : GlobalTime). x .1) p) in
+    rw (seconds, nanoseconds) refl
+
+abbrev gives : GlobalTime → Sent → List Sent → Bool
+gives g fup [] = false
+gives g fup (sync ∷ older) = isFup fup && isTime g (advanced (sync .time) (spanOf (sync .at) (fup .at)))
+
+abbrev pub isGiven : GlobalTime → List Sent → Bool
+isGiven g [] = false
+isGiven g (s ∷ older) = gives g s older || isGiven g older
+
+is-given :
+    (g : GlobalTime) (newer : List Sent) (fup sync : Sent) (older : List Sent) → isFup fup ≡ true →
+    g ≡ advanced (sync .time) (spanOf (sync .at) (fup .at)) → isGiven g (newer ++ (fup ∷ sync ∷ older)) ≡ true
+is-given g [] fup sync older e p = rw (e, is-time g _ p) refl
+is-given g (s ∷ newer) fup sync older e p =
+    rw (is-given g newer fup sync older e p) (or-true (gives g s (newer ++ (fup ∷ sync ∷ older))))
+
+pub not-of-one :
+    (k : Link) (h : History) (b : TimeBase) → isGiven (b .time) (sentIn k h) ≡ false → TimeOfOne k h b → ⊥
+not-of-one k h b e one =
+    let given = is-given (b .time) (one .newer) (one .fup) (one .sync) (one .older) (one .is-fup) (one .time) in
+    true≢false (sym given ∙ ap (isGiven (b .time)) (sym (one .sent)) ∙ e)
+
+-- ---- a base that was never set
+abbrev isUnset : Held → Bool
+isUnset Unset = true
+isUnset (Set b) = false
+
+abbrev pub neverSet : Link → History → Bool
+neverSet k [] = isUnset (slaveRecord k [] .base)
+neverSet k (x ∷ h) = isUnset (slaveRecord k (x ∷ h) .base) && neverSet k h
+
+set-unset : (held : Held) (b : TimeBase) → isUnset held ≡ true → held ≡ Set b → ⊥
+set-unset held b e p = false≢true (ap isUnset (sym p) ∙ e)
+
+pub never-set :
+    (k : Link) (after : History) (x : Event) (before : History) (b : TimeBase) →
+    neverSet k (after ++ (x ∷ before)) ≡ true → slaveRecord k (x ∷ before) .base ≡ Set b → ⊥
+never-set k [] x before b e = set-unset (slaveRecord k (x ∷ before) .base) b (both _ (neverSet k before) e .0)
+never-set k (y ∷ after) x before b e =
+    let rest = after ++ (x ∷ before) in
+    never-set k after x before b (both (isUnset (slaveRecord k (y ∷ rest) .base)) (neverSet k rest) e .1)

@@ -1,0 +1,104 @@
+-- Demand 3 of paper 01: two histories where 16 sending periods do not exceed, but equal, the one sum and exceed
+-- the other, and the slave takes a FUP with the SYNC of 16 periods before or after; and one where a pair's SYNC
+-- arrives a nanosecond before the moment plus L, and the pair is not taken. Assumes nothing.
+use Prim.Native.Nat.{ℕ, zero, suc, _+_, _*_}
+use mathlib.Core.List.{List, [], _∷_, _++_}
+use lib.ListN.{replicate, set as put}
+use Rattle.clock.specs.declared.base.TimeBase.{TimeBase}
+use Rattle.check_mode.specs.declared.CheckMode.the-variants.{NotValidated}
+use Rattle.settings.specs.declared.domain_settings.Security.the-variants.{Plain}
+use Rattle.node_call.specs.Calls.{frame, set, cycle, confirm}
+use Rattle.history.specs.History.{Link, Event, atMaster, atSlave, History}
+use Rattle.history.specs.Demand.{Copy}
+use Rattle.history_day.specs.Settings.{copyOf, masterWith, slaveWith, absents, noIds, millis, ms}
+
+-- ---- domain 0, plain frames, P 100 ms, J 1, L 2 s, one clock; E, F and C in milliseconds
+abbrev edgeWith : (e f c : ℕ) → Link
+edgeWith e f c =
+    record {
+      master =
+          record {
+            «syncs_per_cycle» = 1;
+            domains = put absents 0 (masterWith (millis 100) (millis c) Plain (record { 0 = 0; 1 = 0; 2 = 0 }) noIds);
+          };
+      slave =
+          record {
+            «syncs_per_cycle» = 1;
+            domains = put absents 0 (slaveWith 1 (millis f) (millis 2000) NotValidated noIds);
+          };
+      domain = 0;
+      masterAdds = 0;
+      slaveAdds = 0;
+      e = millis e;
+    }
+
+-- ---- The domain is set to 1000 s at 1 s. SYNC n is sent at 1 s and n periods: so many of them from one on.
+abbrev sets : Event
+sets = atMaster (set 0 (ms 1000) 1000 0)
+
+abbrev syncs : (first count : ℕ) → History
+syncs first zero = []
+syncs first (suc count) =
+    atMaster (cycle (ms (1000 + 100 * (first + count))) (replicate 8 0)) ∷ syncs first count
+
+abbrev confirms : (t counter : ℕ) → Event
+confirms t counter = atMaster (confirm 0 (ms t) counter (replicate 8 0))
+
+abbrev arrives : (t : ℕ) → List ℕ → Event
+arrives t bytes = atSlave (frame (ms t) bytes)
+
+-- ---- SYNC 0, of 1000.0 s, and SYNC 16, of 1001.6 s
+abbrev sync0 : List ℕ
+sync0 = 0x10 ∷ 0x00 ∷ 0x00 ∷ 0x00 ∷ 0x00 ∷ 0x00 ∷ 0x03 ∷ 0xE8 ∷ []
+
+abbrev sync16 : List ℕ
+sync16 = 0x10 ∷ 0x00 ∷ 0x00 ∷ 0x00 ∷ 0x00 ∷ 0x00 ∷ 0x03 ∷ 0xE9 ∷ []
+
+-- ---- E plus F: SYNC 0 arrives E after it was sent, SYNC 16 is lost, its FUP arrives at once, F after SYNC 0. What
+-- the slave then holds: the seconds of SYNC 0 with the nanoseconds of SYNC 16.
+abbrev pub followUpLink : Link
+followUpLink = edgeWith 1000 600 50
+
+abbrev pub followUpEdge : History
+followUpEdge =
+    arrives 2600 (0x18 ∷ 0x00 ∷ 0x00 ∷ 0x00 ∷ 0x23 ∷ 0xC3 ∷ 0x46 ∷ 0x00 ∷ [])
+    ∷ confirms 2600 0
+    ∷ syncs 11 6 ++ (arrives 2000 sync0 ∷ syncs 0 11 ++ (sets ∷ []))
+
+abbrev pub followUpBase : TimeBase
+followUpBase = record { time = record { 0 = 1000; 1 = 600000000 }; at = ms 2000 }
+
+-- ---- E plus C: SYNC 0 is lost, its confirmation comes C after it was sent, that FUP arrives E later, when SYNC
+-- 16 has just arrived. What the slave then holds: the seconds of SYNC 16 with the nanoseconds of FUP 0.
+abbrev pub confirmationLink : Link
+confirmationLink = edgeWith 1540 50 60
+
+abbrev pub confirmationEdge : History
+confirmationEdge =
+    arrives 2600 (0x18 ∷ 0x00 ∷ 0x00 ∷ 0x00 ∷ 0x03 ∷ 0x93 ∷ 0x87 ∷ 0x00 ∷ [])
+    ∷ arrives 2600 sync16
+    ∷ syncs 1 16 ++ (confirms 1060 0 ∷ syncs 0 1 ++ (sets ∷ []))
+
+abbrev pub confirmationBase : TimeBase
+confirmationBase = record { time = record { 0 = 1001; 1 = 60000000 }; at = ms 2600 }
+
+-- ---- The loss time: SYNC 0 arrives 1 ns before the moment, SYNC 1 is lost. SYNC 2, sent late, arrives L after SYNC
+-- 0, so 1 ns before the moment plus L; J is 1, and it is refused by 6, its FUP by 7.
+abbrev pub lossLink : Link
+lossLink = edgeWith 1000 300 60
+
+abbrev pub lossMoment : ℕ
+lossMoment = millis 1200 + 1
+
+abbrev pub lossSync : Copy
+lossSync = copyOf (0x10 ∷ 0x00 ∷ 0x02 ∷ 0x00 ∷ 0x00 ∷ 0x00 ∷ 0x03 ∷ 0xEA ∷ []) 3000 3200 1002 0
+
+abbrev pub lossFup : Copy
+lossFup = copyOf (0x18 ∷ 0x00 ∷ 0x02 ∷ 0x00 ∷ 0x02 ∷ 0xFA ∷ 0xF0 ∷ 0x80 ∷ []) 3050 3250 1002 50000000
+
+abbrev pub lossEdge : History
+lossEdge =
+    arrives 3250 (lossFup .of .bytes)
+    ∷ arrives 3200 (lossSync .of .bytes)
+    ∷ confirms 3050 2
+    ∷ syncs 20 1 ++ (arrives 1200 sync0 ∷ syncs 0 2 ++ (sets ∷ []))

@@ -1,0 +1,4 @@
+pub mod Met
+pub mod Settings
+pub mod Day
+pub mod Edges

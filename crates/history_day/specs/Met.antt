@@ -1,0 +1,94 @@
+-- What demand 3 of paper 01 asks of a link and a history, gathered; its first sentence with another condition in
+-- place of "exceed", and its last from an earlier reading on. Assumes nothing.
+use Prim.Native.Nat.{ℕ, _+_, _*_, _≤_, _<_}
+use mathlib.Core.Path.{_≡_}
+use mathlib.Core.Bool.{true}
+use mathlib.Core.List.{List, [], _∷_, _++_}
+use Rattle.clock.specs.declared.base.TimeBase.{TimeBase}
+use Rattle.clock.specs.declared.base.Held.the-variants.{Set}
+use Rattle.clock.specs.Reading.{spanOf}
+use Rattle.node_call.specs.Calls.{numberIn, answerTo}
+use Rattle.history.specs.History.{
+  Link,
+  masterSettings,
+  slaveSettings,
+  onSlave,
+  atMaster,
+  atSlave,
+  History,
+  masterAfter,
+  slaveAfter,
+  slaveRecord,
+  isFup,
+}
+use Rattle.history.specs.Demand.{
+  Linked,
+  Reads,
+  AreCalls,
+  InRange,
+  NeverFall,
+  Carried,
+  Exceed,
+  TimeOfOne,
+  Copy,
+  Orderly,
+  Taken,
+}
+
+-- ---- all but "exceed": what is asked of the two nodes, their clocks and the bus
+pub record Fair (k : Link) (h : History) : Type 0 where
+  pub linked : Linked k
+  pub reads : Reads k
+  pub calls : AreCalls h
+  pub never-fall : NeverFall k h
+  pub in-range : InRange h
+  pub carried : Carried k h
+
+-- ---- what the first sentence asks, and a time that the slave then holds
+pub record HeldMet (k : Link) (h : History) (b : TimeBase) : Type 0 where
+  pub fair : Fair k h
+  pub exceed : Exceed k
+  pub holds : slaveRecord k h .base ≡ Set b
+
+-- ---- what the last sentence asks of a pair but for the moment of its SYNC
+pub record PairMet
+    (k : Link) (h : History) (moment : ℕ) (newer : List Copy) (fup sync : Copy) (older : List Copy) : Type 0 where
+  pub fair : Fair k h
+  pub orderly : Orderly k moment h
+  pub copies : orderly .copies ≡ newer ++ (fup ∷ sync ∷ older)
+  pub is-fup : isFup (fup .of) ≡ true
+  pub soon : spanOf (sync .at) (fup .at) ≤ slaveSettings k .«follow_up_time»
+
+-- ---- the last sentence for SYNCs that arrive at the moment plus L, or up to so much earlier
+abbrev pub TakenFrom : (earlier : ℕ) → Type 0
+TakenFrom earlier =
+    (k : Link) (h : History) (moment : ℕ) (newer : List Copy) (fup sync : Copy) (older : List Copy) →
+    PairMet k h moment newer fup sync older →
+    moment + slaveSettings k .«loss_time» ≤ onSlave k (sync .at) + earlier → Taken k moment h fup sync older
+
+-- ---- the first sentence under a condition that need not be "exceed"
+abbrev pub HeldUnder : (Link → Type 0) → Type 0
+HeldUnder Condition =
+    (k : Link) → Condition k → (h : History) → Fair k h →
+    (b : TimeBase) → slaveRecord k h .base ≡ Set b → TimeOfOne k h b
+
+-- ---- 16 sending periods reach E plus the one time, and "exceed" E plus the other
+pub record ReachFollowUp (k : Link) : Type 0 where
+  pub follow-up : k .e + slaveSettings k .«follow_up_time» ≤ 16 * masterSettings k .period
+  pub confirmation : k .e + masterSettings k .«confirmation_time» < 16 * masterSettings k .period
+
+pub record ReachConfirmation (k : Link) : Type 0 where
+  pub follow-up : k .e + slaveSettings k .«follow_up_time» < 16 * masterSettings k .period
+  pub confirmation : k .e + masterSettings k .«confirmation_time» ≤ 16 * masterSettings k .period
+
+-- ---- a time that the slave holds and that is of no SYNC
+pub record WrongHeld (k : Link) (h : History) (b : TimeBase) : Type 0 where
+  pub fair : Fair k h
+  pub holds : slaveRecord k h .base ≡ Set b
+  pub wrong : TimeOfOne k h b → ⊥
+
+-- ---- the number that each call is answered
+abbrev pub numbersIn : Link → History → List ℕ
+numbersIn k [] = []
+numbersIn k (atMaster c ∷ h) = numberIn (answerTo (masterAfter k h) c) ∷ numbersIn k h
+numbersIn k (atSlave c ∷ h) = numberIn (answerTo (slaveAfter k h) c) ∷ numbersIn k h

@@ -1,0 +1,74 @@
+-- Paper 01, "Settings of a node": those of the day and of the edges, and a reading in milliseconds. Assumes
+-- nothing.
+use Prim.Native.Nat.{ℕ, _*_}
+use mathlib.Core.List.{List}
+use lib.ListN.{replicate}
+use Rattle.clock.specs.declared.reading.VirtualLocalTime.{VirtualLocalTime}
+use Rattle.frame.specs.declared.data_ids.DataIds.{DataIds}
+use Rattle.check_mode.specs.declared.CheckMode.{CheckMode}
+use Rattle.check_mode.specs.declared.CheckMode.the-variants.{Validated}
+use Rattle.settings.specs.declared.domain_settings.DomainSettings.{DomainSettings}
+use Rattle.settings.specs.declared.domain_settings.Role.the-variants.{Slave, Master}
+use Rattle.settings.specs.declared.domain_settings.Security.{Security}
+use Rattle.settings.specs.declared.domain_settings.Security.the-variants.{Plain}
+use Rattle.settings.specs.declared.domain_settings.UserBytes.{UserBytes}
+use Rattle.settings.specs.Domain.{absentHeld}
+use Rattle.history.specs.Demand.{Copy}
+
+-- ---- a master: P, C, plain or secured, its user bytes, its DataIDs
+abbrev pub masterWith : (p c : ℕ) → Security → UserBytes → DataIds → DomainSettings
+masterWith p c security user ids =
+    record {
+      «follow_up_time» = 0;
+      «loss_time» = 0;
+      «future_threshold» = 0;
+      «past_threshold» = 0;
+      period = p;
+      «confirmation_time» = c;
+      ids = ids;
+      role = Master;
+      mode = Validated;
+      «jump_width» = 0;
+      security = security;
+      user = user;
+    }
+
+-- ---- a slave: J, F, L, its check mode, its DataIDs; leaps not checked
+abbrev pub slaveWith : (j f l : ℕ) → CheckMode → DataIds → DomainSettings
+slaveWith j f l mode ids =
+    record {
+      «follow_up_time» = f;
+      «loss_time» = l;
+      «future_threshold» = 0;
+      «past_threshold» = 0;
+      period = 0;
+      «confirmation_time» = 0;
+      ids = ids;
+      role = Slave;
+      mode = mode;
+      «jump_width» = j;
+      security = Plain;
+      user = record { 0 = 0; 1 = 0; 2 = 0 };
+    }
+
+-- ---- sixteen domains, all absent; DataIDs all 0
+abbrev pub absents : List DomainSettings
+absents = replicate 16 absentHeld
+
+abbrev pub noIds : DataIds
+noIds = absentHeld .ids
+
+-- ---- milliseconds, as nanoseconds and as a reading
+abbrev pub millis : ℕ → ℕ
+millis n = n * 1000000
+
+abbrev pub ms : ℕ → VirtualLocalTime
+ms n = record { 0 = millis n }
+
+-- ---- a copy: the frame, the readings of its sending and arrival in milliseconds, and the master's time at its sending
+abbrev pub copyOf : List ℕ → (sent arrived seconds nanoseconds : ℕ) → Copy
+copyOf bytes sent arrived seconds nanoseconds =
+    record {
+      of = record { bytes = bytes; at = ms sent; time = record { 0 = seconds; 1 = nanoseconds } };
+      at = ms arrived;
+    }
