@@ -10,6 +10,7 @@ pub mod Reachable
 pub mod Keeps
 pub mod Laws
 pub mod Independent
+pub mod Stays
 pub mod Cycles
 pub mod ReadBack
 pub mod Cases

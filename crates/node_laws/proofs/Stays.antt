@@ -1,0 +1,166 @@
+-- A base once set stays set. No contract cites this file.
+--   base-stays   after a call, refused or not
+--   bases-stay   after calls, however many
+-- Assumes nothing.
+use Prim.Native.Nat.{ℕ, zero, suc, _+_, _%_}
+use mathlib.Core.Bool.{Bool}
+use mathlib.Core.List.{List, [], _∷_}
+use lib.Dec.{leb, ltb}
+use lib.ListN.{length, set as put}
+use Rattle.promise.proofs.Laws.{either}
+use Rattle.clock.specs.declared.reading.VirtualLocalTime.{VirtualLocalTime}
+use Rattle.frame.specs.declared.values.Fup.{Fup}
+use Rattle.frame.specs.declared.values.Frame.{Frame}
+use Rattle.frame.specs.declared.values.Frame.the-variants.{Sync as sync, Fup as fup}
+use Rattle.check_mode.specs.Check.{isGood}
+use Rattle.admission.specs.declared.Admission.{Admission}
+use Rattle.admission.specs.declared.Admission.the-variants.{Admitted, Refused}
+use Rattle.admission.specs.declared.Needed.the-variants.{Master}
+use Rattle.admission.specs.Reading.{isGoodReading}
+use Rattle.admission.specs.Admission.{admittedOf}
+use Rattle.frame_admission.specs.declared.FrameAdmission.{FrameAdmission}
+use Rattle.frame_admission.specs.declared.FrameAdmission.the-variants.{Admitted as admitted, Refused as refused}
+use Rattle.frame_admission.specs.FrameAdmission.{frameAdmitted}
+use Rattle.domain.specs.declared.Domain.{Domain}
+use Rattle.slave_pair.specs.declared.joining.Joined.{Joined}
+use Rattle.slave_pair.specs.declared.joining.Joined.the-variants.{With, Refused as not-joined}
+use Rattle.slave_pair.specs.Join.{joinedOf}
+use Rattle.slave_sync.specs.declared.FrameStep.{FrameStep}
+use Rattle.slave_sync.specs.Sync.{takesSync}
+use Rattle.slave_fup.specs.Fup.{fupAs}
+use Rattle.slave_frame.specs.Step.{kindOf}
+use Rattle.master_rules.specs.declared.due.Due.{Due}
+use Rattle.master_rules.specs.declared.due.Due.the-variants.{At, No}
+use Rattle.master_set.specs.declared.SetStep.{SetStep}
+use Rattle.master_send.specs.declared.SendStep.{SendStep}
+use Rattle.master_send.specs.Send.{dueIn, sendAs}
+use Rattle.master_follow.specs.declared.Follow.{Follow}
+use Rattle.master_follow.specs.declared.Follow.the-variants.{With as following, Refused as not-following}
+use Rattle.master_follow.specs.Follow.{followOf}
+use Rattle.master_confirm.specs.declared.ConfirmAnswer.{ConfirmAnswer}
+use Rattle.master_confirm.specs.declared.ConfirmAnswer.the-variants.{Followed, Refused as not-followed}
+use Rattle.master_confirm.specs.Confirm.{confirmAs, confirmOf}
+use Rattle.call_frame.specs.FrameCall.{frameCallAs}
+use Rattle.call_set.specs.SetCall.{setCallAs}
+use Rattle.call_confirm.specs.ConfirmCall.{withRoom, confirmAnswered, confirmCallAs}
+use Rattle.round.specs.Records.{recordAt}
+use Rattle.round.specs.Round.{turnOf, sentAfter, nextAfter, goes}
+use Rattle.node.specs.declared.Node.{Node}
+use Rattle.node_frame.specs.Frame.{addressedBy}
+use Rattle.node_cycle.specs.declared.NodeCycle.{NodeCycle}
+use Rattle.node_cycle.specs.Cycle.{isRoomFor}
+use Rattle.node_call.specs.Calls.{Call, frame, read, set, cycle, confirm, nodeAfter, nodeAfterAll}
+use Rattle.node_laws.specs.Good.{IsSet}
+
+-- ---- what a step keeps of a record
+abbrev Stays : Domain → Domain → Type 0
+Stays d after = IsSet (d .base) → IsSet (after .base)
+
+-- ---- a call on one record
+
+module _ (d : Domain) (kept t : VirtualLocalTime) where
+  -- ---- a frame
+
+  fup-stays : (j : Joined) (f : Fup) → Stays d (fupAs j d f .domain)
+  fup-stays (not-joined refusal) f h = h
+  fup-stays (With p) f h = tt
+
+  kind-stays : (values : Frame) → Stays d (kindOf d t values .domain)
+  kind-stays (sync s) = either (λ (r : FrameStep). Stays d (r .domain)) (takesSync d t s) (λ h. h) (λ h. h)
+  kind-stays (fup f) = fup-stays (joinedOf (d .settings .«follow_up_time») (d .pairing) t f) f
+
+  frame-stays : (a : FrameAdmission) (bytes : List ℕ) → Stays d (frameCallAs a d kept t bytes .domain)
+  frame-stays (refused refusal) bytes = λ h. h
+  frame-stays (admitted values) bytes =
+      either (λ (r : FrameStep). Stays d (r .domain)) (isGood (d .settings .mode) (d .settings .ids) bytes)
+      (kind-stays values) (λ h. h)
+
+  -- ---- a set
+
+  set-stays : (a : Admission) (s ns : ℕ) → Stays d (setCallAs a d kept t s ns .domain)
+  set-stays (Refused refusal) s ns = λ h. h
+  set-stays Admitted s ns =
+      either (λ (r : SetStep). Stays d (r .domain)) (leb ns 999999999) (λ h. tt) (λ h. h)
+
+  -- ---- a confirmation
+
+  followed-stays : (f : Follow) (counter : ℕ) → Stays d (confirmAs f d counter .domain)
+  followed-stays (following ovs nanoseconds at) counter h = h
+  followed-stays (not-following refusal) counter h = h
+
+  answered-stays :
+      (a : ConfirmAnswer) (after : Domain) → Stays d after → Stays d (confirmAnswered a after d kept t .domain)
+  answered-stays (Followed f) after s = s
+  answered-stays (not-followed refusal) after s = λ h. h
+
+  confirm-stays :
+      (a : Admission) (counter : ℕ) (out : List ℕ) →
+      Stays d (confirmCallAs a d kept t counter (length out) .domain)
+  confirm-stays (Refused refusal) counter out = λ h. h
+  confirm-stays Admitted counter out =
+      answered-stays (withRoom (confirmOf d t counter .answer) (length out)) (confirmOf d t counter .domain)
+      (followed-stays (followOf (d .settings .«confirmation_time») (d .sending) t counter) counter)
+
+-- ---- a turn
+
+send-stays : (due : Due) (d : Domain) (t : VirtualLocalTime) → Stays d (sendAs due d t .domain)
+send-stays (At seconds nanoseconds) d t h = h
+send-stays No d t h = h
+
+turn-stays : (may : Bool) (d : Domain) (t : VirtualLocalTime) → Stays d (turnOf may d t .domain)
+turn-stays may d t = either (λ (r : SendStep). Stays d (r .domain)) may (send-stays (dueIn d t) d t) (λ h. h)
+
+-- ---- a record stored at a place; beyond the records, nothing is
+
+put-stays :
+    (ds : List Domain) (i at : ℕ) (d : Domain) → Stays (recordAt ds at) d →
+    Stays (recordAt ds i) (recordAt (put ds at d) i)
+put-stays [] i at d s h = h
+put-stays (x ∷ rest) zero zero d s h = s h
+put-stays (x ∷ rest) zero (suc at) d s h = h
+put-stays (x ∷ rest) (suc i) zero d s h = h
+put-stays (x ∷ rest) (suc i) (suc at) d s h = put-stays rest i at d s h
+
+-- ---- a round
+
+goes-stays :
+    (k at sent most : ℕ) (t : VirtualLocalTime) (ds : List Domain) (next i : ℕ) →
+    Stays (recordAt ds i) (recordAt (goes k at sent most t ds next .domains) i)
+unfolding goes
+goes-stays zero at sent most t ds next i h = h
+goes-stays (suc k) at sent most t ds next i h =
+    let s = turnOf (ltb sent most) (recordAt ds at) t in
+    goes-stays k ((at + 1) % 16) (sentAfter (s .answer) sent) most t (put ds at (s .domain))
+    (nextAfter (s .answer) at next) i
+    (put-stays ds i at (s .domain) (turn-stays (ltb sent most) (recordAt ds at) t) h)
+
+-- ---- a call
+
+pub base-stays :
+    (n : Node) (c : Call) (i : ℕ) →
+    IsSet (recordAt (n .domains) i .base) → IsSet (recordAt (nodeAfter n c .domains) i .base)
+base-stays n (frame t bytes) i =
+    let d = recordAt (n .domains) (addressedBy bytes) in
+    put-stays (n .domains) i (addressedBy bytes) _
+    (frame-stays d (n .kept) t (frameAdmitted (n .kept) t (d .number) (d .settings .role) bytes) bytes)
+base-stays n (read domain t) i = λ h. h
+base-stays n (set domain t s ns) i =
+    let d = recordAt (n .domains) (domain % 16) in
+    put-stays (n .domains) i (domain % 16) _
+    (set-stays d (n .kept) t (admittedOf (n .kept) t (d .number) (d .settings .role) domain Master) s ns)
+base-stays n (cycle t out) i =
+    let P : NodeCycle → Type 0 = λ r. Stays (recordAt (n .domains) i) (recordAt (r .node .domains) i) in
+    either P (isGoodReading (n .kept) t)
+    (either P (isRoomFor n (length out))
+    (goes-stays 16 (n .round % 16) 0 (n .«syncs_per_cycle») t (n .domains) (n .round) i) (λ h. h))
+    (λ h. h)
+base-stays n (confirm domain t counter out) i =
+    let d = recordAt (n .domains) (domain % 16) in
+    put-stays (n .domains) i (domain % 16) _
+    (confirm-stays d (n .kept) t (admittedOf (n .kept) t (d .number) (d .settings .role) domain Master) counter out)
+
+pub bases-stay :
+    (n : Node) (cs : List Call) (i : ℕ) →
+    IsSet (recordAt (n .domains) i .base) → IsSet (recordAt (nodeAfterAll n cs .domains) i .base)
+bases-stay n [] i h = h
+bases-stay n (c ∷ rest) i h = bases-stay (nodeAfter n c) rest i (base-stays n c i h)
