@@ -1,4 +1,3 @@
 pub mod Laws
 pub mod Only
-mod Compared
 mod Signed

@@ -1,7 +1,5 @@
 // The order of two global times, and their difference D with its thresholds (paper 01, "A slave's domain").
 // Nothing here refuses, and nothing takes a reading.
-mod apart;
-
 use apart::Apart;
 use apart::compare;
 use clock::GlobalTime;

@@ -59,7 +59,8 @@ use Rattle.call_set.specs.SetCall.{setStepped, setCallAs, setCallOf}
 use Rattle.call_confirm.specs.declared.ConfirmCall.{ConfirmCall}
 use Rattle.call_confirm.specs.ConfirmCall.{withRoom, confirmAnswered, confirmCallAs, confirmCallOf, confirmBytes}
 use Rattle.round.specs.Records.{recordAt}
-use Rattle.round.specs.Round.{turnOf, framesBy, sentAfter, nextAfter, goes, pasted}
+use Rattle.round.specs.Round.{framesBy, sentAfter, goes, pasted}
+use Rattle.turn.specs.Turn.{turnOf, nextAfter}
 use Rattle.node.specs.declared.Node.{Node}
 use Rattle.node_frame.specs.Frame.{addressedBy}
 use Rattle.node_cycle.specs.declared.NodeCycle.{NodeCycle}

@@ -10,8 +10,9 @@ use lib.ListN.{getD}
 use Rattle.refusal.specs.declared.Refusal.the-variants.{Settings}
 use Rattle.settings.specs.declared.domain_settings.DomainSettings.{DomainSettings}
 use Rattle.settings.specs.declared.domain_settings.Role.{Role}
-use Rattle.settings.specs.Domain.{within, isGoodAs, isGood, absentHeld}
-use Rattle.settings.proofs.Laws.{SlaveRange, MasterRange, slave-range, master-range}
+use Rattle.settings.specs.Domain.{absentHeld}
+use Rattle.ranges.specs.Ranges.{within, isGoodAs, isGood}
+use Rattle.ranges.proofs.Laws.{SlaveRange, MasterRange, slave-range, master-range}
 use Rattle.node_settings.specs.declared.NodeSettings.{NodeSettings}
 use Rattle.node_settings.specs.declared.Verdict.the-variants.{Good, Refused}
 use Rattle.node_settings.specs.Node.{allGood, judgedOf}

@@ -18,8 +18,9 @@ use Rattle.frame.specs.declared.values.Frame.the-variants.{Sync as sync, Fup as
 use Rattle.frame_write.specs.Write.{bytesOf}
 use Rattle.settings.specs.declared.domain_settings.DomainSettings.{DomainSettings}
 use Rattle.settings.specs.declared.domain_settings.Role.{Role}
-use Rattle.settings.specs.Domain.{isGood, masterHeld, heldOf, heldAs}
-use Rattle.settings.proofs.Laws.{master-range}
+use Rattle.settings.specs.Domain.{masterHeld, heldOf, heldAs}
+use Rattle.ranges.specs.Ranges.{isGood}
+use Rattle.ranges.proofs.Laws.{master-range}
 use Rattle.domain.specs.declared.Domain.{Domain}
 use Rattle.domain.specs.declared.Sending.the-variants.{Open}
 use Rattle.domain.specs.Fresh.{freshOf}

@@ -31,7 +31,8 @@ use Rattle.master_send.specs.declared.SendAnswer.{SendAnswer}
 use Rattle.master_send.specs.declared.SendAnswer.the-variants.{Sent, NotDue}
 use Rattle.master_send.specs.Send.{isAt, dueIn, sendAs, sendOf}
 use Rattle.round.specs.Records.{recordAt}
-use Rattle.round.specs.Round.{turnOf, framesBy, sentAfter, nextAfter, goes, roundOf, putAt, pasted}
+use Rattle.turn.specs.Turn.{turnOf, nextAfter}
+use Rattle.round.specs.Round.{framesBy, sentAfter, goes, roundOf, putAt, pasted}
 use Rattle.node.specs.declared.Node.{Node}
 use Rattle.node_cycle.specs.declared.NodeCycle.{NodeCycle}
 use Rattle.answers.specs.Cycle.{cycleNumber, cycleCount}

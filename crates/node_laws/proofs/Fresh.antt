@@ -16,9 +16,11 @@ use Rattle.settings.specs.declared.domain_settings.Role.{Role}
 use Rattle.settings.specs.declared.domain_settings.Role.the-variants.{Absent, Slave, Master}
 use Rattle.node_settings.specs.declared.NodeSettings.{NodeSettings}
 use Rattle.node_settings.specs.declared.Verdict.{Verdict}
-use Rattle.settings.specs.Domain.{within, isGood, absentHeld, heldAs}
+use Rattle.ranges.specs.Ranges.{within, isGood}
+use Rattle.settings.specs.Domain.{absentHeld, heldAs}
 use Rattle.node_settings.specs.Node.{allGood}
-use Rattle.settings.proofs.Laws.{held-twice, held-good}
+use Rattle.ranges.proofs.Laws.{held-good}
+use Rattle.settings.proofs.Laws.{held-twice}
 use Rattle.domain.specs.declared.Domain.{Domain}
 use Rattle.domain.specs.declared.Pairing.the-variants.{Waiting}
 use Rattle.domain.specs.declared.LastSync.the-variants.{Unknown}

@@ -25,7 +25,8 @@ use Rattle.domain.specs.declared.Domain.{Domain}
 use Rattle.master_rules.specs.Due.{isMaster, dueOf}
 use Rattle.master_send.specs.Send.{sendAs}
 use Rattle.round.specs.Records.{recordAt}
-use Rattle.round.specs.Round.{turnOf, sentAfter, nextAfter, goes}
+use Rattle.turn.specs.Turn.{turnOf, nextAfter}
+use Rattle.round.specs.Round.{sentAfter, goes}
 use Rattle.node.specs.declared.Node.{Node}
 use Rattle.node_cycle.specs.declared.NodeCycle.{NodeCycle}
 use Rattle.node.specs.Store.{storedIn}

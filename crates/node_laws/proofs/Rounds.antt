@@ -26,7 +26,8 @@ use Rattle.master_send.specs.declared.SendAnswer.the-variants.{Sent, NotDue}
 use Rattle.master_send.specs.declared.SendStep.{SendStep}
 use Rattle.master_send.specs.Send.{sendOf}
 use Rattle.round.specs.Records.{recordAt}
-use Rattle.round.specs.Round.{turnOf, framesBy, sentAfter, nextAfter, goes, roundOf}
+use Rattle.turn.specs.Turn.{turnOf, nextAfter}
+use Rattle.round.specs.Round.{framesBy, sentAfter, goes, roundOf}
 use Rattle.node_laws.specs.Good.{RecordGood}
 use Rattle.node_laws.proofs.Told.{either-told}
 use Rattle.node_laws.proofs.Later.{later}

@@ -44,7 +44,8 @@ use Rattle.call_frame.specs.FrameCall.{frameCallAs}
 use Rattle.call_set.specs.SetCall.{setCallAs}
 use Rattle.call_confirm.specs.ConfirmCall.{withRoom, confirmAnswered, confirmCallAs}
 use Rattle.round.specs.Records.{recordAt}
-use Rattle.round.specs.Round.{turnOf, sentAfter, nextAfter, goes}
+use Rattle.round.specs.Round.{sentAfter, goes}
+use Rattle.turn.specs.Turn.{turnOf, nextAfter}
 use Rattle.node.specs.declared.Node.{Node}
 use Rattle.node_frame.specs.Frame.{addressedBy}
 use Rattle.node_cycle.specs.declared.NodeCycle.{NodeCycle}

@@ -6,7 +6,7 @@ use Rattle.settings.specs.declared.domain_settings.DomainSettings.{DomainSettin
 use Rattle.node_settings.specs.declared.NodeSettings.{NodeSettings}
 use Rattle.node_settings.specs.declared.Verdict.{Verdict}
 use Rattle.node_settings.specs.declared.Verdict.the-variants.{Good, Refused}
-use Rattle.settings.specs.Domain.{within, isGood}
+use Rattle.ranges.specs.Ranges.{within, isGood}
 
 abbrev pub allGood : List DomainSettings → Bool
 allGood [] = true

@@ -1,4 +1,5 @@
 // The settings of a node (paper 01, "Settings of a node"): S, and 16 domains.
+use ranges::is_good;
 use refusal::Refusal;
 use settings::DomainSettings;
 ghost use mathlib.Core.Path.{_≡_};
@@ -46,7 +47,7 @@ fn all_good(domains: [DomainSettings; 16]) -> bool
     let mut d = 0;
     while d < 16 {
         let settings = domains[d];
-        if !settings.is_good() {
+        if !is_good(settings) {
             return false;
         }
         d += 1;

@@ -2,7 +2,7 @@
 -- node) and going round once, the first S due domains send." Assumes nothing.
 use Prim.Native.Nat.{ℕ, zero, suc, _+_, _*_, _%_}
 use mathlib.Core.Path.{_≡_}
-use mathlib.Core.Bool.{Bool, cond}
+use mathlib.Core.Bool.{cond}
 use mathlib.Core.List.{List, [], _∷_, _++_}
 use lib.Dec.{ltb}
 use lib.ListN.{length, set}
@@ -13,14 +13,9 @@ use Rattle.frame_write.specs.Write.{bytesOf, isRoom, writtenIn}
 use Rattle.domain.specs.declared.Domain.{Domain}
 use Rattle.master_send.specs.declared.SendAnswer.{SendAnswer}
 use Rattle.master_send.specs.declared.SendAnswer.the-variants.{Sent, NotDue}
-use Rattle.master_send.specs.declared.SendStep.{SendStep}
-use Rattle.master_send.specs.Send.{sendOf}
+use Rattle.turn.specs.Turn.{turnOf, nextAfter}
 use Rattle.round.specs.declared.Round.{Round}
 use Rattle.round.specs.Records.{recordAt}
-
--- ---- "the first S due domains send": once S have sent, no other does
-abbrev pub turnOf : (maySend : Bool) → Domain → VirtualLocalTime → SendStep
-turnOf maySend d t = cond maySend (sendOf d t) (record { answer = NotDue; domain = d })
 
 -- ---- what a turn sends: its frame, or nothing
 abbrev pub framesBy : SendAnswer → DataIds → List (List ℕ)
@@ -30,11 +25,6 @@ framesBy NotDue ids = []
 abbrev pub sentAfter : SendAnswer → ℕ → ℕ
 sentAfter (Sent s) sent = sent + 1
 sentAfter NotDue sent = sent
-
--- ---- "Starting after the domain served last"
-abbrev pub nextAfter : SendAnswer → (at next : ℕ) → ℕ
-nextAfter (Sent s) at next = (at % 16 + 1) % 16
-nextAfter NotDue at next = next
 
 -- ---- The records after some turns, where the next round starts, and the frames sent.
 pub record Gone : Type 0 where

@@ -7,11 +7,10 @@ use frame::DataIds;
 use frame::Frame;
 use frame_write::write_frame;
 use master_send::SendAnswer;
-use master_send::SendStep;
-use master_send::send;
+use turn::next_after;
+use turn::turn;
 ghost use Prim.Native.Nat.{_≤_, _*_};
-ghost use mathlib.Core.Path.{_≡_};
-ghost use Rattle.round.specs.Round.{turnOf, nextAfter, PutAt, RoundIn};
+ghost use Rattle.round.specs.Round.{PutAt, RoundIn};
 
 // The records after a round, where the next one starts, and how many have sent.
 pub struct Round {
@@ -54,20 +53,6 @@ pub fn go_round(
     }
 }
 
-// A record's turn: it sends a SYNC if the domain is due and the cycle may still send.
-fn turn(domain: Domain, t: VirtualLocalTime, may_send: bool) -> SendStep
-    ensures { λ r. ⌜ r ≡ turnOf «may_send» domain t ⌝ }
-{
-    if may_send {
-        send(domain, t)
-    } else {
-        SendStep {
-            answer: SendAnswer::NotDue,
-            domain,
-        }
-    }
-}
-
 // Writes what a turn sent behind the frames that are there, and counts it.
 fn put(answer: SendAnswer, ids: DataIds, out: &mut [u8], sent: usize) -> usize
     requires { ⌜ sent ≤ 16 ⌝ }
@@ -79,15 +64,5 @@ fn put(answer: SendAnswer, ids: DataIds, out: &mut [u8], sent: usize) -> usize
             sent + 1
         }
         SendAnswer::NotDue => sent,
-    }
-}
-
-// Where the next round starts after a turn: behind a domain that sent.
-fn next_after(answer: SendAnswer, at: u8, next: u8) -> u8
-    ensures { λ r. ⌜ r ≡ nextAfter answer at next ⌝ }
-{
-    match answer {
-        SendAnswer::Sent(_) => (at % 16 + 1) % 16,
-        SendAnswer::NotDue => next,
     }
 }

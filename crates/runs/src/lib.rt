@@ -14,7 +14,7 @@ use pieces::say_unread;
 use pieces::with_room;
 use pieces::write_out;
 use settings::DomainSettings;
-use trial_step::item_length;
+use trial_item::item_length;
 use trial_step::trial_step;
 
 pub enum Program {

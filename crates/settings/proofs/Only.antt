@@ -2,14 +2,10 @@
 -- this file.
 -- Assumes nothing.
 use mathlib.Core.Path.{_≡_}
-use mathlib.Core.Bool.{Bool}
 use Rattle.promise.specs.Only.{OnlyOne}
 use Rattle.promise.proofs.Laws.{equation-only}
 use Rattle.settings.specs.declared.domain_settings.DomainSettings.{DomainSettings}
-use Rattle.settings.specs.Domain.{isGood, absentHeld, heldOf}
-
-pub is-good-only : (s : DomainSettings) → OnlyOne (λ (r : Bool). r ≡ isGood s)
-is-good-only s = equation-only _
+use Rattle.settings.specs.Domain.{absentHeld, heldOf}
 
 pub held-only : (s : DomainSettings) → OnlyOne (λ (r : DomainSettings). r ≡ heldOf s)
 held-only s = equation-only _

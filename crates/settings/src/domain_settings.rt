@@ -3,9 +3,6 @@ use check_mode::CheckMode;
 use frame::DataIds;
 ghost use mathlib.Core.Path.{_≡_};
 ghost use Rattle.settings.specs.Domain.{
-  isGood,
-  slaveGood,
-  masterGood,
   absentHeld,
   slaveHeld,
   masterHeld,
@@ -68,64 +65,6 @@ impl DomainSettings {
     pub const CONFIRMATION_TIME_MIN: u64 = 1;
 
     pub const CONFIRMATION_TIME_MAX: u64 = 3_000_000_000;
-
-    // Whether they are in range, as far as the role has them read.
-    pub fn is_good(self) -> bool
-        ensures { λ r. ⌜ r ≡ isGood self ⌝ }
-    {
-        let role = self.role;
-        match role {
-            Role::Absent => true,
-            Role::Slave => self.slave_good(),
-            Role::Master => self.master_good(),
-        }
-    }
-
-    fn slave_good(self) -> bool
-        ensures { λ r. ⌜ r ≡ slaveGood self ⌝ }
-    {
-        if self.jump_width < DomainSettings::JUMP_WIDTH_MIN {
-            return false;
-        }
-        if DomainSettings::JUMP_WIDTH_MAX < self.jump_width {
-            return false;
-        }
-        if self.follow_up_time < DomainSettings::FOLLOW_UP_TIME_MIN {
-            return false;
-        }
-        if DomainSettings::FOLLOW_UP_TIME_MAX < self.follow_up_time {
-            return false;
-        }
-        if self.loss_time <= self.follow_up_time {
-            return false;
-        }
-        if DomainSettings::LOSS_TIME_MAX < self.loss_time {
-            return false;
-        }
-        if DomainSettings::THRESHOLD_MAX < self.future_threshold {
-            return false;
-        }
-        self.past_threshold <= DomainSettings::THRESHOLD_MAX
-    }
-
-    fn master_good(self) -> bool
-        ensures { λ r. ⌜ r ≡ masterGood self ⌝ }
-    {
-        let confirmation_time = self.confirmation_time as u64;
-        if self.period < DomainSettings::PERIOD_MIN {
-            return false;
-        }
-        if DomainSettings::PERIOD_MAX < self.period {
-            return false;
-        }
-        if confirmation_time < DomainSettings::CONFIRMATION_TIME_MIN {
-            return false;
-        }
-        if DomainSettings::CONFIRMATION_TIME_MAX < confirmation_time {
-            return false;
-        }
-        confirmation_time < self.period
-    }
 
     // What is held of them: 0 for all that the role does not have read.
     pub fn held(self) -> DomainSettings

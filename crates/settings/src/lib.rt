@@ -1,6 +1,5 @@
-// The settings of one domain (paper 01, "Settings of a node"): what a product gives, what is good, and what is
-// held. A role's settings are read only for that role, an absent domain's not at all, so junk there is never refused;
-// what is not read is held as 0.
+// The settings of one domain (paper 01, "Settings of a node"): what a product gives, and what is held. A
+// role's settings are read only for that role, an absent domain's not at all; what is not read is held as 0.
 mod domain_settings;
 
 pub use domain_settings::DomainSettings;

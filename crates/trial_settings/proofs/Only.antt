@@ -3,15 +3,11 @@
 -- Assumes nothing.
 use Prim.Native.Nat.{ℕ}
 use mathlib.Core.Path.{_≡_}
-use mathlib.Core.Bool.{Bool}
 use mathlib.Core.List.{List}
 use Rattle.promise.specs.Only.{OnlyOne}
 use Rattle.promise.proofs.Laws.{equation-only}
 use Rattle.node_settings.specs.declared.NodeSettings.{NodeSettings}
-use Rattle.trial_settings.specs.Block.{isSettings, settingsOf}
-
-pub is-settings-only : (item : List ℕ) → OnlyOne (λ (r : Bool). r ≡ isSettings item)
-is-settings-only item = equation-only _
+use Rattle.trial_settings.specs.Block.{settingsOf}
 
 pub settings-of-only : (item : List ℕ) → OnlyOne (λ (r : NodeSettings). r ≡ settingsOf item)
 settings-of-only item = equation-only _

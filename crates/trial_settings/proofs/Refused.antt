@@ -10,7 +10,7 @@ use lib.Dec.{ltb}
 use lib.ListN.{getD}
 use Rattle.refusal.specs.declared.Refusal.the-variants.{Settings}
 use Rattle.node_settings.specs.declared.Verdict.the-variants.{Refused}
-use Rattle.settings.specs.Domain.{isGood}
+use Rattle.ranges.specs.Ranges.{isGood}
 use Rattle.node_settings.specs.Node.{judgedOf}
 use Rattle.trial_settings.specs.Block.{noSettings, settingsOf}
 

@@ -1,6 +1,6 @@
 -- A settings block of the trial: the mark C7 3B, S, n, and n domain blocks of 128 bytes. Assumes nothing.
 use Prim.Native.Nat.{ℕ, zero, suc, _+_, _*_}
-use mathlib.Core.Bool.{Bool, false, cond}
+use mathlib.Core.Bool.{cond}
 use mathlib.Core.List.{List, [], _∷_}
 use lib.Dec.{eqb, ltb}
 use lib.ListN.{getD, replicate}
@@ -110,10 +110,6 @@ oneOf blocks item d = cond (ltb d blocks) (domainOf item (4 + 128 * d)) absentHe
 abbrev pub domainsFrom : (k blocks : ℕ) → List ℕ → (d : ℕ) → List DomainSettings
 domainsFrom zero blocks item d = []
 domainsFrom (suc k) blocks item d = oneOf blocks item d ∷ domainsFrom k blocks item (d + 1)
-
--- ---- The mark C7 3B.
-abbrev pub isSettings : List ℕ → Bool
-isSettings item = cond (eqb (getD item 0 0) 0xC7) (eqb (getD item 1 0) 0x3B) false
 
 -- ---- "with n above 16 the answer is 14": settings that no node takes, with S 0.
 abbrev pub settingsOf : List ℕ → NodeSettings

@@ -24,7 +24,6 @@ ghost use Rattle.trial_settings.specs.Block.{
   domainOf,
   oneOf,
   domainsFrom,
-  isSettings,
   settingsOf,
 };
 
@@ -37,16 +36,6 @@ pub enum Mode {
 pub enum Sends {
     As(Security),
     Unknown,
-}
-
-// Whether an item is a settings block.
-pub fn is_settings(item: &[u8]) -> bool
-    ensures { λ r. ⌜ r ≡ isSettings (now (item .entry)) ⌝ }
-{
-    if byte_at(item, 0) != 0xC7 {
-        return false;
-    }
-    byte_at(item, 1) == 0x3B
 }
 
 // The settings of a block.

@@ -6,19 +6,15 @@ use mathlib.Core.Path.{_≡_, sym, _∙_}
 use mathlib.Core.Bool.{Bool, true, false}
 use mathlib.Core.List.{List}
 use Rattle.promise.specs.Only.{OnlyOne}
-use Rattle.promise.proofs.Laws.{equation-only}
 use Rattle.text.specs.Text.{Puts}
 use Rattle.text.proofs.Only.{puts-only}
 use Rattle.node.specs.declared.Node.{Node}
 use Rattle.bench_record.specs.declared.Asked.{Asked}
 use Rattle.bench_record.specs.declared.Asked.the-variants.{Call, Bad}
 use Rattle.bench_record.specs.Record.{askedBy}
-use Rattle.trial_settings.specs.Block.{isSettings}
+use Rattle.trial_item.specs.Item.{isSettings}
 use Rattle.trial_step.specs.declared.TrialStep.{TrialStep}
-use Rattle.trial_step.specs.Step.{itemLength, CalledAs, SteppedAs, TrialStepped}
-
-pub item-length-only : (bytes : List ℕ) → OnlyOne (λ (r : ℕ). r ≡ itemLength bytes)
-item-length-only bytes = equation-only _
+use Rattle.trial_step.specs.Step.{CalledAs, SteppedAs, TrialStepped}
 
 -- the node and whether the run goes on are equations, and the place and the bytes are those of one text
 same :

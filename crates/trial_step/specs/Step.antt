@@ -22,12 +22,9 @@ use Rattle.bench_record.specs.declared.Asked.{Asked}
 use Rattle.bench_record.specs.declared.Asked.the-variants as asked
 use Rattle.bench_record.specs.Record.{askedBy}
 use Rattle.trial_line.specs.TrialLine.{trialLine}
-use Rattle.trial_settings.specs.Block.{isSettings, settingsOf}
+use Rattle.trial_item.specs.Item.{isSettings}
+use Rattle.trial_settings.specs.Block.{settingsOf}
 use Rattle.trial_step.specs.declared.TrialStep.{TrialStep}
-
--- ---- A settings block has n blocks of 128 bytes, a call record 20 bytes.
-abbrev pub itemLength : List ℕ → ℕ
-itemLength bytes = cond (isSettings bytes) (4 + 128 * getD bytes 3 0) 20
 
 -- ---- Kind 1: the domain byte is the frame's length, its bytes are the payload's and beyond eight zeros.
 abbrev pub frameOf : List ℕ → List ℕ

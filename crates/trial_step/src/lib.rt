@@ -10,12 +10,11 @@ use node_call::Request;
 use node_call::call;
 use node_settings::Verdict;
 use text::put_byte;
+use trial_item::is_settings;
 use trial_line::put_trial_line;
-use trial_settings::is_settings;
 use trial_settings::settings_of;
 ghost use mathlib.Core.Path.{_≡_};
 ghost use Rattle.trial_step.specs.Step.{
-  itemLength,
   atMost512,
   lentLength,
   frameOf,
@@ -32,18 +31,6 @@ pub struct TrialStep {
     pub at: usize,
     // Whether the run goes on.
     pub goes_on: bool,
-}
-
-// How many bytes the item has that begins here: 20, or those of a settings block. Where its first bytes
-// have not come yet, it is more than there are.
-pub fn item_length(bytes: &[u8]) -> usize
-    ensures { λ r. ⌜ r ≡ itemLength (now (bytes .entry)) ⌝ }
-{
-    if is_settings(bytes) {
-        4 + 128 * (byte_at(bytes, 3) as usize)
-    } else {
-        20
-    }
 }
 
 // The item's line, and the node after it. A bad record ends the run.

@@ -6,7 +6,7 @@ use lib.IntN.{pos, negsuc}
 use mir.Syntax.{w64}
 use mir.ValLaws.{toZ-pos, toZ-ofZ}
 use borrow.Author.Needs.{needs}
-use Rattle.difference.proofs.Compared.{AheadBy, BehindBy, told-ahead, told-behind}
+use Rattle.apart.proofs.Compared.{AheadBy, BehindBy, told-ahead, told-behind}
 use native.Mathlib.Omega.{arith}
 use borrow.Author.Tests.{le-ltb, lt-ltb}
 use Rattle.difference.proofs.Signed.{minus-one}

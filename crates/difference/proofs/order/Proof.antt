@@ -10,7 +10,7 @@ use Rattle.clock.specs.declared.time.GlobalTime.{GlobalTime}
 use Rattle.difference.specs.declared.TimeOrder.the-variants.{Earlier, Same, Later}
 use Rattle.clock.specs.Time.{nanosecondsOf}
 use Rattle.difference.specs.Difference.{orderOf}
-use Rattle.difference.proofs.Compared.{AheadBy, BehindBy, told-ahead, told-behind}
+use Rattle.apart.proofs.Compared.{AheadBy, BehindBy, told-ahead, told-behind}
 use Rattle.difference.proofs.order.Statement.{statement}
 use Rattle.difference.proofs.order.Tie as tie
 

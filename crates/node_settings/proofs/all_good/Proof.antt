@@ -12,7 +12,7 @@ use lib.Seq.{drop-cons, drop-length}
 use borrow.Author.Needs.{needs}
 use borrow.Author.Tests.{not-true, not-false}
 use Rattle.settings.specs.declared.domain_settings.DomainSettings.{DomainSettings}
-use Rattle.settings.specs.Domain.{isGood}
+use Rattle.ranges.specs.Ranges.{isGood}
 use Rattle.node_settings.specs.Node.{allGood}
 use Rattle.node_settings.proofs.all_good.Statement.{statement}
 use Rattle.node_settings.proofs.all_good.Tie as tie

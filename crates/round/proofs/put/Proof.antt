@@ -5,35 +5,27 @@ use Rattle.round.proofs.put.Reads as reads
 use Rattle.round.proofs.put.Lts as lts
 use Rattle.frame_write.proofs.write_frame.Reads as write-frame-reads
 
--- src/lib.rt:76:26
 enum-known-answer : tie.Need-enum-known-answer
 enum-known-answer c = search needs
 
--- src/lib.rt:77:47
 mul-write-frame : tie.Need-mul-write-frame
 mul-write-frame c = search needs
 
--- src/lib.rt:77:13
 write-frame-requires : tie.Need-write-frame-requires
 write-frame-requires c κs = search needs
 
--- src/lib.rt:78:13
 add-result : tie.Need-add-result
 add-result c = search needs
 
--- src/lib.rt:80:31
 enum-told : tie.Need-enum-told
 enum-told c = search needs
 
--- src/lib.rt:71:1
 same-length : tie.Need-same-length
 same-length c = search needs
 
--- src/lib.rt:71:1
 returns : tie.Need-returns
 returns c = record { count = rw (c .before .before .before .before .before .answer .given .1); bytes = rw (c .before .before .before .before .before .answer .given .1) (c .before .before .write-frame .ensures .bytes) }
 
--- src/lib.rt:71:1
 returns-2 : tie.Need-returns-2
 returns-2 c = search needs
 
