@@ -1,1 +1,2 @@
+-- The laws of `admission`.
 pub mod Only

@@ -1,2 +1,3 @@
+-- The definitions of `admission`, in the order to read them.
 pub mod Reading
 pub mod Admission

@@ -1,1 +1,2 @@
+-- The laws of `answers`.
 pub mod Only

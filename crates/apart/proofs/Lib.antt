@@ -1,2 +1,3 @@
+-- The laws of `apart`, each after what it stands on.
 pub mod Compared
 pub mod Only

@@ -1,1 +1,2 @@
+-- The definitions of `apart`.
 pub mod Apart

@@ -60,5 +60,6 @@ pub line-fits :
     length (benchLine item answer sent) ≤ 80
 line-fits item answer sent h =
     append-fits (answerText item (numberOf answer) ++ valuesText answer sent) newline
-    (append-fits (answerText item (numberOf answer)) (valuesText answer sent) (answer-fits item (numberOf answer)) (values-fit answer sent h))
+    (append-fits (answerText item (numberOf answer)) (valuesText answer sent)
+    (answer-fits item (numberOf answer)) (values-fit answer sent h))
     (le-refl 1)

@@ -1,1 +1,2 @@
+-- The definitions of `bench_line`.
 pub mod BenchLine

@@ -1,1 +1,2 @@
+-- The laws of `bench_record`.
 pub mod Only

@@ -1,1 +1,2 @@
+-- The definitions of `bench_record`.
 pub mod Record

@@ -1,1 +1,2 @@
+-- The laws of `bench_settings`.
 pub mod Only

@@ -1,1 +1,2 @@
+-- The definitions of `bench_settings`.
 pub mod Bench

@@ -1,1 +1,2 @@
+-- The laws of `call_read`.
 pub mod Only

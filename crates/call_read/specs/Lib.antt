@@ -1,1 +1,2 @@
+-- The definitions of `call_read`.
 pub mod ReadCall

@@ -1,1 +1,2 @@
+-- The laws of `check_mode`.
 pub mod Only

@@ -1,1 +1,2 @@
+-- The definitions of `check_mode`.
 pub mod Check

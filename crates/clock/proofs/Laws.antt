@@ -59,7 +59,8 @@ time-later b t u from to =
     ap (advanced (b .time)) (omega arith)
     ∙ sym (advance-add (b .time) (spanOf (b .at) t) (spanOf t u))
 
-module _ (b : TimeBase) (t : VirtualLocalTime) (good : IsReceived (b .time)) (in-range : t .0 ≤ 1000000000000000000) where
+module _ (b : TimeBase) (t : VirtualLocalTime) (good : IsReceived (b .time))
+    (in-range : t .0 ≤ 1000000000000000000) where
   pub time-exact : nanosecondsOf (timeAt b t) ≡ nanosecondsOf (b .time) + spanOf (b .at) t
   time-exact = advance-exact (b .time) (spanOf (b .at) t) (omega arith)
 

@@ -1,3 +1,4 @@
+-- The definitions of `clock`, in the order to read them.
 pub mod Reading
 pub mod Time
 pub mod Base

@@ -1,1 +1,2 @@
+-- The definitions of `crc8`.
 pub mod Crc8

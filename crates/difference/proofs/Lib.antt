@@ -1,3 +1,4 @@
+-- The laws of `difference`, each after what it stands on.
 pub mod Laws
 pub mod Only
 mod Signed

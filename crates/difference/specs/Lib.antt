@@ -1,1 +1,2 @@
+-- The definitions of `difference`.
 pub mod Difference

@@ -1,2 +1,3 @@
+-- The definitions of `domain`, in the order to read them.
 pub mod Fresh
 pub mod Updates

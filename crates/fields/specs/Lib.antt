@@ -1,1 +1,2 @@
+-- The definitions of `fields`.
 pub mod Fields

@@ -1,1 +1,2 @@
+-- The laws of `frame`.
 pub mod Only

@@ -1,1 +1,2 @@
+-- The laws of `frame_admission`.
 pub mod Only

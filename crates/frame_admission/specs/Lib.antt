@@ -1,1 +1,2 @@
+-- The definitions of `frame_admission`.
 pub mod FrameAdmission

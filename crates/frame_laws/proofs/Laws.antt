@@ -76,7 +76,8 @@ module _ (domain counter word : ℕ) (hd : domain < 16) (hc : counter < 16) (hw 
       readOf (framedOf 0x18 0x28 p (byteTwoOf domain counter) (flags sgw ovs) word id)
       ≡ fupValues domain counter sgw ovs word p
   fup-back sgw ovs id h (Plain user) =
-      λ i. fupValues (domain-back i) (counter-back i) (sgw-back sgw ovs i) (ovs-back sgw ovs h i) (word-back i) (Plain user)
+      λ i.
+      fupValues (domain-back i) (counter-back i) (sgw-back sgw ovs i) (ovs-back sgw ovs h i) (word-back i) (Plain user)
   fup-back sgw ovs id h Secured =
       λ i. fupValues (domain-back i) (counter-back i) (sgw-back sgw ovs i) (ovs-back sgw ovs h i) (word-back i) Secured
 
@@ -224,4 +225,5 @@ pub good-back :
     (mode : CheckMode) (ids : DataIds) (f : Frame) →
     isGood mode ids (bytesOf ids f) ≡ takesKind mode (protectionOf f)
 good-back mode ids (sync s) = good-sync mode ids (s .domain) (s .counter) (s .user0) (s .seconds) (s .protection)
-good-back mode ids (fup f) = good-fup mode ids (f .domain) (f .counter) (flags (f .sgw) (f .ovs)) (f .nanoseconds) (f .protection)
+good-back mode ids (fup f) =
+    good-fup mode ids (f .domain) (f .counter) (flags (f .sgw) (f .ovs)) (f .nanoseconds) (f .protection)

@@ -1,1 +1,2 @@
+-- The laws of `frame_read`.
 pub mod Only

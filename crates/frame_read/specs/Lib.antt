@@ -1,1 +1,2 @@
+-- The definitions of `frame_read`.
 pub mod Read

@@ -55,6 +55,7 @@ isRoom at out = leb (at + 8) (length out)
 abbrev pub writtenIn : List ℕ → ℕ → List ℕ → List ℕ
 writtenIn bytes at out = take at out ++ bytes ++ drop (at + 8) out
 
-pub record WrittenAt (frame : Frame) (ids : DataIds) (at : ℕ) (before : List ℕ) (r : Written) (after : List ℕ) : Type 0 where
+pub record WrittenAt (frame : Frame) (ids : DataIds) (at : ℕ) (before : List ℕ) (r : Written)
+    (after : List ℕ) : Type 0 where
   pub answer : r ≡ cond (isRoom at before) Done NoRoom
   pub bytes : after ≡ cond (isRoom at before) (writtenIn (bytesOf ids frame) at before) before

@@ -1,4 +1,4 @@
--- The proofs of `history`, each after what it stands on. No contract cites this file.
+-- The laws of `history`, each after what it stands on.
 pub mod Row
 pub mod Rows
 pub mod Ranges

@@ -1,3 +1,3 @@
--- The definitions of `history`, in the order to read them. Assumes nothing.
+-- The definitions of `history`, in the order to read them.
 pub mod History
 pub mod Demand

@@ -1,3 +1,4 @@
+-- The laws of `history_day`, each after what it stands on.
 pub mod Tests
 pub mod Day
 pub mod Edges

@@ -1,3 +1,4 @@
+-- The definitions of `history_day`, in the order to read them.
 pub mod Met
 pub mod Settings
 pub mod Day

@@ -1,2 +1,3 @@
+-- The laws of `lines`, each after what it stands on.
 pub mod Only
 pub mod Fits

@@ -1,1 +1,2 @@
+-- The definitions of `lines`.
 pub mod Lines

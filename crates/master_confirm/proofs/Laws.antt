@@ -54,6 +54,7 @@ confirm-closes d t counter = by-sending (d .sending)
     by-sending Never = λ e. absurd (omega arith)
     by-sending (Open sent seconds nanoseconds at) =
         either Closed (isOpenFor c sent at t counter)
-        (either Closed (leb (ovsOf (record { 0 = seconds; 1 = nanoseconds }) at t) 3) (λ e. tt) (λ e. absurd (omega arith)))
+        (either Closed (leb (ovsOf (record { 0 = seconds; 1 = nanoseconds }) at t) 3)
+        (λ e. tt) (λ e. absurd (omega arith)))
         (λ e. absurd (omega arith))
     by-sending (Confirmed at) = λ e. absurd (omega arith)

@@ -1,1 +1,2 @@
+-- The definitions of `master_follow`.
 pub mod Follow

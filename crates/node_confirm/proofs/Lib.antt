@@ -1,1 +1,2 @@
+-- The laws of `node_confirm`.
 pub mod Only

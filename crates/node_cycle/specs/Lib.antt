@@ -1,1 +1,2 @@
+-- The definitions of `node_cycle`.
 pub mod Cycle

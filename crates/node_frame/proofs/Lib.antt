@@ -1,1 +1,2 @@
+-- The laws of `node_frame`.
 pub mod Only

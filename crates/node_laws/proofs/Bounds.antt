@@ -121,7 +121,8 @@ module _ (i : ℕ) (kept : VirtualLocalTime) (d : Domain) (g : RecordGood i kept
   -- ---- OVS
 
   pub ovs-within :
-      d .settings .role ≡ Master → (t : VirtualLocalTime) (counter : ℕ) → confirmOf d t counter .answer ≡ Refused Ovs → ⊥
+      d .settings .role ≡ Master → (t : VirtualLocalTime) (counter : ℕ) →
+      confirmOf d t counter .answer ≡ Refused Ovs → ⊥
   ovs-within r t counter = by-sending (d .sending) (subst (λ (r : Role). RoleGood r kept d) r (g .role) .sent)
     where
       c : ℕ
@@ -153,8 +154,8 @@ module _ (i : ℕ) (kept : VirtualLocalTime) (d : Domain) (g : RecordGood i kept
       (asked : ℕ) (t : VirtualLocalTime) (counter length : ℕ) →
       confirmCallOf d kept asked t counter length .answer ≡ Refused Ovs → ⊥
   call-ovs-within asked t counter length =
-      by-admission (λ (a : Admission). confirmCallAs a d kept t counter length .answer ≡ Refused Ovs → ⊥) kept t (d .number)
-      (d .settings .role) asked master
+      by-admission (λ (a : Admission). confirmCallAs a d kept t counter length .answer ≡ Refused Ovs → ⊥)
+      kept t (d .number) (d .settings .role) asked master
       (λ tested.
       answered (withRoom a length)
       (either NotOvs (leb 8 length) (here tested)
@@ -170,6 +171,8 @@ module _ (i : ℕ) (kept : VirtualLocalTime) (d : Domain) (g : RecordGood i kept
       here : Tested kept t (d .settings .role) master → NotOvs a
       here tested = ovs-within (master-admitted (d .settings .role) (tested .in-role)) t counter
 
-      answered : (x : ConfirmAnswer) → NotOvs x → NotOvs (confirmAnswered x (confirmOf d t counter .domain) d kept t .answer)
+      answered :
+          (x : ConfirmAnswer) → NotOvs x →
+          NotOvs (confirmAnswered x (confirmOf d t counter .domain) d kept t .answer)
       answered (Followed f) h = h
       answered (Refused refusal) h = h

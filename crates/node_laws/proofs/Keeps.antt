@@ -15,14 +15,22 @@ use Rattle.frame_admission.specs.FrameAdmission.{frameAdmitted}
 use Rattle.admission.specs.declared.Admission.{Admission}
 use Rattle.admission.specs.declared.Admission.the-variants.{Admitted, Refused as refused}
 use Rattle.frame_admission.specs.declared.FrameAdmission.{FrameAdmission}
-use Rattle.frame_admission.specs.declared.FrameAdmission.the-variants.{Admitted as frame-admitted, Refused as frame-refused}
+use Rattle.frame_admission.specs.declared.FrameAdmission.the-variants.{
+  Admitted as frame-admitted,
+  Refused as frame-refused,
+}
 use Rattle.admission.specs.declared.Needed.the-variants.{Master}
 use Rattle.domain.specs.declared.Domain.{Domain}
 use Rattle.slave_frame.proofs.Laws.{refusal-keeps-frame}
 use Rattle.slave_frame.specs.Step.{frameOf}
 use Rattle.slave_update.specs.Answer.{frameNumber}
 use Rattle.slave_update.specs.declared.answer.FrameAnswer.{FrameAnswer}
-use Rattle.slave_update.specs.declared.answer.FrameAnswer.the-variants.{FirstTaken, Refused as not-taken, SyncTaken, Updated}
+use Rattle.slave_update.specs.declared.answer.FrameAnswer.the-variants.{
+  FirstTaken,
+  Refused as not-taken,
+  SyncTaken,
+  Updated,
+}
 use Rattle.master_confirm.specs.Confirm.{confirmNumber, confirmOf}
 use Rattle.master_confirm.specs.declared.ConfirmAnswer.{ConfirmAnswer}
 use Rattle.master_confirm.specs.declared.ConfirmAnswer.the-variants.{Followed, Refused}

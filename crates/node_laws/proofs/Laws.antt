@@ -33,7 +33,20 @@ use Rattle.node.specs.Store.{storedIn}
 use Rattle.node_frame.specs.Frame.{addressedBy}
 use Rattle.answers.specs.Cycle.{cycleNumber, cycleCount}
 use Rattle.node_cycle.specs.Cycle.{isRoomFor, nodeCycleOf, cycleBytes}
-use Rattle.node_call.specs.Calls.{Call, frame, read, set, cycle, confirm, nodeAfter, answerTo, numberIn, lentTo, lentAfter, countIn}
+use Rattle.node_call.specs.Calls.{
+  Call,
+  frame,
+  read,
+  set,
+  cycle,
+  confirm,
+  nodeAfter,
+  answerTo,
+  numberIn,
+  lentTo,
+  lentAfter,
+  countIn,
+}
 use Rattle.node_laws.specs.Apart.{Elsewhere, Own}
 use Rattle.node_laws.proofs.Keeps.{refusal-keeps-frame-call, refusal-keeps-set-call, refusal-keeps-confirm-call}
 

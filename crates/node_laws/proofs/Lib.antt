@@ -1,3 +1,4 @@
+-- The laws of `node_laws`, each after what it stands on.
 pub mod Told
 pub mod Later
 pub mod Admitted

@@ -115,8 +115,8 @@ pub set-kept :
     (kept : VirtualLocalTime) (asked : ℕ) (t : VirtualLocalTime) (s ns : ℕ) (d : Domain) →
     Grows kept (setCallOf d kept asked t s ns .kept)
 set-kept kept asked t s ns d =
-    by-admission (λ (a : Admission). Grows kept (setCallAs a d kept t s ns .kept)) kept t (d .number) (d .settings .role)
-    asked master
+    by-admission (λ (a : Admission). Grows kept (setCallAs a d kept t s ns .kept))
+    kept t (d .number) (d .settings .role) asked master
     (λ tested.
     either (λ (x : SetStep). Grows kept (setStepped x kept t .kept)) (leb ns 999999999)
     (tested .not-before, λ h. tested .in-range) (stays kept))
@@ -192,7 +192,8 @@ module _ (i : ℕ) (t : VirtualLocalTime) (d : Domain) (e : d .settings .role �
   sent-good : (b : TimeBase) → d .base ≡ Set b → timeAt b t .0 ≤ 4294967295 →
       RecordGood i t (sentOf d (timeAt b t .0) (timeAt b t .1) t .domain)
   sent-good b is fits =
-      sending-good (Open (d .«next_counter» % 16) (timeAt b t .0) (timeAt b t .1) t) ((d .«next_counter» % 16 + 1) % 16) (
+      let counter = d .«next_counter» % 16 in
+      sending-good (Open counter (timeAt b t .0) (timeAt b t .1) t) ((counter + 1) % 16) (
         subst IsSet (sym is) tt,
         omega arith,
         refl,
@@ -211,7 +212,8 @@ answered i kept t (Refused refusal) after d g h = g
 pub confirm-good :
     (i : ℕ) (kept : VirtualLocalTime) (asked : ℕ) (t : VirtualLocalTime) (counter length : ℕ) (d : Domain) →
     RecordGood i kept d →
-    RecordGood i (confirmCallOf d kept asked t counter length .kept) (confirmCallOf d kept asked t counter length .domain)
+    RecordGood i (confirmCallOf d kept asked t counter length .kept)
+    (confirmCallOf d kept asked t counter length .domain)
 confirm-good i kept asked t counter length d g =
     by-admission
     (λ (a : Admission).

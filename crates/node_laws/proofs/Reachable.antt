@@ -55,7 +55,13 @@ use Rattle.node_laws.proofs.Master.{Grows, set-good, set-kept, confirm-
 use Rattle.node_laws.proofs.Rounds.{AllGood, all-later, stored-good, round-good}
 use Rattle.node_laws.proofs.Fresh.{new-good}
 use Rattle.node_laws.proofs.ReadBack.{good-sync-back, good-fup-back}
-use Rattle.node_laws.proofs.Bounds.{received-within, read-within, call-ovs-within, next-counter-exact, time-exact-here}
+use Rattle.node_laws.proofs.Bounds.{
+  received-within,
+  read-within,
+  call-ovs-within,
+  next-counter-exact,
+  time-exact-here,
+}
 
 all-good : (n : Node) → Good n → AllGood (n .kept) (n .domains)
 all-good n g = record { sixteen = g .sixteen; records = g .records }
@@ -66,8 +72,15 @@ stored :
     (n : Node) (at : ℕ) (d : Domain) (kept : VirtualLocalTime) → Good n → at < 16 → Grows (n .kept) kept →
     RecordGood at kept d → Good (storedIn n at d kept)
 stored n at d kept g h grows r =
-    let all = stored-good kept (n .domains) at d h (all-later (n .kept) kept (n .domains) (grows .0) (all-good n g)) r in
-    record { sixteen = all .sixteen; kept = grows .1 (g .kept); syncs = g .syncs; round = g .round; records = all .records }
+    let later = all-later (n .kept) kept (n .domains) (grows .0) (all-good n g) in
+    let all = stored-good kept (n .domains) at d h later r in
+    record {
+      sixteen = all .sixteen;
+      kept = grows .1 (g .kept);
+      syncs = g .syncs;
+      round = g .round;
+      records = all .records;
+    }
 
 -- ---- a round
 
@@ -79,7 +92,13 @@ cycled n t g e =
     let gone =
     round-good (n .domains) (n .round) (n .kept) t (n .«syncs_per_cycle») (range .0) (g .round) (all-good n g)
     in
-    record { sixteen = gone .0 .sixteen; kept = range .1; syncs = g .syncs; round = gone .1; records = gone .0 .records }
+    record {
+      sixteen = gone .0 .sixteen;
+      kept = range .1;
+      syncs = g .syncs;
+      round = gone .1;
+      records = gone .0 .records;
+    }
 
 cycle-good : (n : Node) (t : VirtualLocalTime) (length : ℕ) → Good n → Good (nodeCycleOf n t length .node)
 cycle-good n t length g =

@@ -17,7 +17,13 @@ use Rattle.clock.specs.declared.base.TimeBase.{TimeBase}
 use Rattle.clock.specs.declared.base.Held.{Held}
 use Rattle.clock.specs.declared.base.Held.the-variants.{Unset, Set}
 use Rattle.frame.specs.declared.types.FrameType.{FrameType}
-use Rattle.frame.specs.declared.types.FrameType.the-variants.{PlainSync, SecuredSync, PlainFup, SecuredFup, Unknown as no-type}
+use Rattle.frame.specs.declared.types.FrameType.the-variants.{
+  PlainSync,
+  SecuredSync,
+  PlainFup,
+  SecuredFup,
+  Unknown as no-type,
+}
 use Rattle.frame.specs.declared.values.Sync.{Sync}
 use Rattle.frame.specs.declared.values.Fup.{Fup}
 use Rattle.frame.specs.declared.values.Frame.{Frame}
@@ -55,7 +61,16 @@ use Rattle.slave_frame.specs.Step.{kindOf, frameOf}
 use Rattle.answers.specs.Kept.{keptAfter}
 use Rattle.call_frame.specs.FrameCall.{frameCallAs, frameCallOf}
 use Rattle.node_laws.specs.Reachable.{AreBytes}
-use Rattle.node_laws.specs.Good.{HeldWithin, LastWithin, PairWithin, BaseBefore, Blank, SlaveGood, RoleGood, RecordGood}
+use Rattle.node_laws.specs.Good.{
+  HeldWithin,
+  LastWithin,
+  PairWithin,
+  BaseBefore,
+  Blank,
+  SlaveGood,
+  RoleGood,
+  RecordGood,
+}
 use Rattle.node_laws.proofs.Told.{either-told, both}
 use Rattle.node_laws.proofs.Later.{later}
 
@@ -177,7 +192,8 @@ joined most last (Open p) t f h =
     (either P (isOther p f) tt
     (either-told P (isAbove f) (λ e. tt) (λ e. (h .0, h .1, ltb-false _ _ e))))
 
-module _ (d : Domain) (t : VirtualLocalTime) (p : Pair) (f : Fup) (leap : Leap) (j : JoinedWith (d .last) f (With p)) where
+module _ (d : Domain) (t : VirtualLocalTime) (p : Pair) (f : Fup) (leap : Leap)
+    (j : JoinedWith (d .last) f (With p)) where
   pair-before : LastWithin t (d .last) → p .at .0 ≤ t .0
   pair-before h = (subst (LastWithin t) (j .1) h) .1
 
@@ -241,7 +257,8 @@ module _ (i : ℕ) (kept t : VirtualLocalTime) (d : Domain) (g : RecordGood i ke
         }
 
     fup-as : (j : Joined) (f : Fup) → f .ovs ≤ 3 → JoinedWith (d .last) f j → StepGood (fupAs j d f)
-    fup-as (not-joined refusal) f o h = either (λ (k : VirtualLocalTime). RecordGood i k d) (eqb (numberOf refusal) 0) at-t g
+    fup-as (not-joined refusal) f o h =
+        either (λ (k : VirtualLocalTime). RecordGood i k d) (eqb (numberOf refusal) 0) at-t g
     fup-as (With p) f o h =
         let u = updateOf (d .settings .«future_threshold») (d .settings .«past_threshold») (d .base) (newBase p f) in
         subst (λ (n : ℕ). RecordGood i (keptAfter n kept t) (updatedOf d p f (u .leap)))

@@ -56,7 +56,8 @@ IsSet (Set b) = Unit {0}
 abbrev pub SentWithin : (kept : VirtualLocalTime) → Held → (next : ℕ) → Sending → Type 0
 SentWithin kept base next Never = next ≡ 0
 SentWithin kept base next (open-sync counter seconds nanoseconds at) =
-    IsSet base × (counter < 16) × (next ≡ (counter + 1) % 16) × (seconds < 4294967296) × (nanoseconds ≤ 999999999) × (at .0 ≤ kept .0)
+    IsSet base × (counter < 16) × (next ≡ (counter + 1) % 16) × (seconds < 4294967296)
+    × (nanoseconds ≤ 999999999) × (at .0 ≤ kept .0)
 SentWithin kept base next (Confirmed at) = IsSet base × (next < 16) × (at .0 ≤ kept .0)
 
 -- ---- a record in each role; what the other role adds is fresh

@@ -1,3 +1,4 @@
+-- The definitions of `node_laws`, in the order to read them.
 pub mod Reachable
 pub mod Good
 pub mod Cases

@@ -1,1 +1,2 @@
+-- The laws of `node_set`.
 pub mod Only

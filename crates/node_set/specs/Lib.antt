@@ -1,1 +1,2 @@
+-- The definitions of `node_set`.
 pub mod Set

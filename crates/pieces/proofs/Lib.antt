@@ -1,1 +1,2 @@
+-- The laws of `pieces`.
 pub mod Only

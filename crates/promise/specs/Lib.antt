@@ -1,1 +1,2 @@
+-- The definitions of `promise`.
 pub mod Only

@@ -1,1 +1,2 @@
+-- The laws of `refusal`.
 pub mod Only

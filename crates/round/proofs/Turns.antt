@@ -74,7 +74,8 @@ module _ (whole : Gone) (first : List ℕ) (most : ℕ) (t : VirtualLocalTime) (
 
   abbrev left : Gone
   left =
-      goes k ((at + 1) % 16) (sentAfter (one .answer) sent) most t (set ds at (one .domain)) (nextAfter (one .answer) at next)
+      goes k ((at + 1) % 16) (sentAfter (one .answer) sent) most t (set ds at (one .domain))
+      (nextAfter (one .answer) at next)
 
   told : goes (suc k) at sent most t ds next ≡ before (framesBy (one .answer) (recordAt ds at .settings .ids)) left
   told = goes-turn k at sent most t ds next

@@ -41,7 +41,8 @@ goes zero at sent most t ds next = record { domains = ds; next = next; frames = 
 goes (suc turns) at sent most t ds next =
     let s = turnOf (ltb sent most) (recordAt ds at) t in
     before (framesBy (s .answer) (recordAt ds at .settings .ids))
-    (goes turns ((at + 1) % 16) (sentAfter (s .answer) sent) most t (set ds at (s .domain)) (nextAfter (s .answer) at next))
+    (goes turns ((at + 1) % 16) (sentAfter (s .answer) sent) most t (set ds at (s .domain))
+    (nextAfter (s .answer) at next))
 
 abbrev pub roundOf : List Domain → (first : ℕ) → VirtualLocalTime → (most : ℕ) → Gone
 roundOf ds first t most = goes 16 (first % 16) 0 most t ds first

@@ -1,1 +1,2 @@
+-- The definitions of `settings`.
 pub mod Domain

@@ -1,1 +1,2 @@
+-- The definitions of `slave_counter`.
 pub mod Counter

@@ -29,7 +29,8 @@ as-keeps (With p) d f = update-keeps (d .base)
   where
     update-keeps :
         (b : Held) →
-        Keeps d (takenBy (updateOf (d .settings .«future_threshold») (d .settings .«past_threshold») b (newBase p f)) d p f)
+        Keeps d
+        (takenBy (updateOf (d .settings .«future_threshold») (d .settings .«past_threshold») b (newBase p f)) d p f)
     update-keeps Unset = λ r e. cc
     update-keeps (Set old) = λ r e. cc
 

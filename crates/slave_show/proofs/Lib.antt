@@ -1,1 +1,2 @@
+-- The laws of `slave_show`.
 pub mod Only

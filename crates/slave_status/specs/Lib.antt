@@ -1,1 +1,2 @@
+-- The definitions of `slave_status`.
 pub mod Status

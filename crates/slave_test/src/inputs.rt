@@ -1,6 +1,4 @@
-// What the cases are given: settings of a slave, and a frame's bytes.
-ghost use mathlib.Core.Path.{_≡_};
-ghost use lib.ListN.{length};
+// What the cases are given: settings of a slave.
 use check_mode::CheckMode;
 use frame::DataIds;
 use settings::DomainSettings;
@@ -10,7 +8,6 @@ use settings::UserBytes;
 
 // A slave's settings. No byte of the DataIDs stands twice, so a wrong list or place shows.
 pub fn slave(
-    mode: CheckMode,
     jump_width: u8,
     follow_up_time: u64,
     loss_time: u64,
@@ -28,29 +25,9 @@ pub fn slave(
         confirmation_time: 0,
         ids: DataIds { sync, fup },
         role: Role::Slave,
-        mode,
+        mode: CheckMode::Ignored,
         jump_width,
         security: Security::Plain,
         user: UserBytes(0, 0, 0),
     }
-}
-
-// The eight bytes of n, as its hexadecimal digits have them.
-pub fn eight(n: u64) -> [u8; 8]
-    ensures { λ r. ⌜ 8 ≡ length r ⌝ }
-{
-    [
-        low(n >> 56),
-        low(n >> 48),
-        low(n >> 40),
-        low(n >> 32),
-        low(n >> 24),
-        low(n >> 16),
-        low(n >> 8),
-        low(n),
-    ]
-}
-
-fn low(n: u64) -> u8 {
-    (n % 256) as u8
 }

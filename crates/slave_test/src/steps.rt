@@ -2,15 +2,12 @@
 use crate::inputs;
 use crate::line;
 use crate::record;
-use check_mode::CheckMode;
 use clock::VirtualLocalTime;
 use domain::Domain;
 use frame::Frame;
 use frame::Fup;
 use frame::Protection;
 use frame::Sync;
-use frame_read::Read;
-use frame_read::read_frame;
 use slave_frame::take_frame;
 use slave_fup::take_fup;
 use slave_show::status_at;
@@ -20,11 +17,7 @@ use slave_sync::take_sync;
 // ---- a fresh record, of domain 1
 
 pub fn fresh(j: u8, f: u64, l: u64, future: u64, past: u64) -> Domain {
-    fresh_as(CheckMode::Ignored, j, f, l, future, past)
-}
-
-pub fn fresh_as(mode: CheckMode, j: u8, f: u64, l: u64, future: u64, past: u64) -> Domain {
-    let d = Domain::new(1, inputs::slave(mode, j, f, l, future, past));
+    let d = Domain::new(1, inputs::slave(j, f, l, future, past));
     line::word(b"fresh J");
     line::small(j);
     line::word(b" F");
@@ -43,94 +36,42 @@ pub fn fresh_as(mode: CheckMode, j: u8, f: u64, l: u64, future: u64, past: u64) 
 
 // A plain one, by its counter and seconds.
 pub fn sync(d: Domain, t: u64, counter: u8, seconds: u32) -> Domain {
-    sync_of(d, t, counter, seconds, 0xAA, Protection::Plain(0xBB))
-}
-
-pub fn sync_of(
-    d: Domain,
-    t: u64,
-    counter: u8,
-    seconds: u32,
-    user0: u8,
-    protection: Protection,
-) -> Domain {
     line::word(b"sync");
     line::small(counter);
     line::reading(t);
     line::number(seconds as u64);
-    line::byte(user0);
-    protected(protection);
+    line::word(b" aa bb");
     let s = Sync {
         domain: 1,
         counter,
-        user0,
+        user0: 0xAA,
         seconds,
-        protection,
+        protection: Protection::Plain(0xBB),
     };
     ended(take_sync(d, VirtualLocalTime(t), s))
 }
 
 // A plain one with no SGW, by its counter, OVS and nanoseconds.
 pub fn fup(d: Domain, t: u64, counter: u8, ovs: u8, nanoseconds: u32) -> Domain {
-    fup_of(
-        d,
-        t,
-        counter,
-        false,
-        ovs,
-        nanoseconds,
-        Protection::Plain(0xCC),
-    )
-}
-
-pub fn fup_of(
-    d: Domain,
-    t: u64,
-    counter: u8,
-    sgw: bool,
-    ovs: u8,
-    nanoseconds: u32,
-    protection: Protection,
-) -> Domain {
     line::word(b"fup");
     line::small(counter);
     line::reading(t);
     line::time(ovs as u64, nanoseconds);
-    line::flag(sgw);
-    protected(protection);
+    line::word(b" 0 cc");
     let f = Fup {
         domain: 1,
         counter,
-        sgw,
+        sgw: false,
         ovs,
         nanoseconds,
-        protection,
+        protection: Protection::Plain(0xCC),
     };
     ended(take_fup(d, VirtualLocalTime(t), f))
 }
 
-fn protected(protection: Protection) {
-    match protection {
-        Protection::Plain(user) => line::byte(user),
-        Protection::Secured => line::word(b" secured"),
-    }
-}
+// ---- bytes that are no frame
 
-// ---- a frame, by its bytes
-
-pub fn frame(d: Domain, t: u64, n: u64) -> Domain {
-    let bytes = inputs::eight(n);
-    line::word(b"frame ");
-    io::print_hex(libc::STDOUT_FILENO, n, 16);
-    line::reading(t);
-    match read_frame(&bytes) {
-        Read::Values(values) => ended(take_frame(d, VirtualLocalTime(t), &bytes, values)),
-        Read::LengthNot8 => d,
-        Read::NoSuchType => d,
-    }
-}
-
-// Bytes that are no frame, with the values of a good SYNC.
+// With the values of a good SYNC.
 pub fn no_frame(d: Domain, bytes: &[u8]) -> Domain {
     line::word(b"no-frame");
     line::number(bytes.len() as u64);

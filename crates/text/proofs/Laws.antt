@@ -39,7 +39,8 @@ begun = record { makes = refl }
 
 pub turn :
     {xs rest left before out after whole : List ℕ} {at place r : ℕ} →
-    left ≡ xs ++ rest → Puts xs place out r after → Left left place out whole at before → Left rest r after whole at before
+    left ≡ xs ++ rest → Puts xs place out r after → Left left place out whole at before →
+    Left rest r after whole at before
 turn {xs} {rest} {before} {out} {whole} {at} {place} e f g =
     record {
       makes =
@@ -60,7 +61,9 @@ ended {before} {out} {whole} {at} {place} e g =
 put-length : (x : ℕ) (t : Text) → length (put x t .bytes) ≡ length (t .bytes)
 put-length x t = go (ltb (t .at) (length (t .bytes)))
   where
-    go : (b : Bool) → length (cond b (record { at = t .at + 1; bytes = set (t .bytes) (t .at) x }) t .bytes) ≡ length (t .bytes)
+    go :
+        (b : Bool) →
+        length (cond b (record { at = t .at + 1; bytes = set (t .bytes) (t .at) x }) t .bytes) ≡ length (t .bytes)
     go true = length-set (t .bytes) (t .at) x
     go false = refl
 

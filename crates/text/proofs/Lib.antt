@@ -1,3 +1,4 @@
+-- The laws of `text`, each after what it stands on.
 pub mod Laws
 pub mod Lengths
 pub mod Digits

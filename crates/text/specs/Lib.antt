@@ -1,1 +1,2 @@
+-- The definitions of `text`.
 pub mod Text

@@ -15,7 +15,15 @@ use Rattle.answers.specs.declared.ReadAnswer.the-variants as read
 use Rattle.node_call.specs.declared.CallAnswer.{CallAnswer}
 use Rattle.node_call.specs.declared.CallAnswer.the-variants.{Frame, Read, Set, Cycle, Confirm}
 use Rattle.node_call.specs.Called.{numberOf}
-use Rattle.trial_line.specs.TrialLine.{userText, readText, countOf, shownBuffer, bufferText, valuesText, trialLine}
+use Rattle.trial_line.specs.TrialLine.{
+  userText,
+  readText,
+  countOf,
+  shownBuffer,
+  bufferText,
+  valuesText,
+  trialLine,
+}
 
 shown-fits : (buffer : List ℕ) → length buffer ≤ 512 → length (shownBuffer buffer) ≤ 1024
 shown-fits [] h = omega arith
@@ -57,5 +65,7 @@ pub line-fits :
     length (trialLine item answer buffer) ≤ 1088
 line-fits item answer buffer h =
     append-fits (answerText item (numberOf answer) ++ valuesText answer buffer) newline
-    (append-fits (answerText item (numberOf answer)) (valuesText answer buffer) (answer-fits item (numberOf answer)) (values-fit answer buffer h))
+    (append-fits (answerText item (numberOf answer)) (valuesText answer buffer)
+    (answer-fits item (numberOf answer))
+    (values-fit answer buffer h))
     (le-refl 1)

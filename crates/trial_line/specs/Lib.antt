@@ -1,1 +1,2 @@
+-- The definitions of `trial_line`.
 pub mod TrialLine

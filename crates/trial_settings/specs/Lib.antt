@@ -1,1 +1,2 @@
+-- The definitions of `trial_settings`.
 pub mod Block

@@ -114,7 +114,8 @@ fn answer(
     out: &mut [u8],
     at: usize,
 ) -> TrialStep
-    ensures { λ r. ⌜ TrialCalled node item request (now (frame .entry)) (now (buffer .entry)) at (now (out .entry)) r (now (out .exit)) ⌝ }
+    ensures { λ r. ⌜ TrialCalled node item request (now (frame .entry)) (now (buffer .entry)) at
+        (now (out .entry)) r (now (out .exit)) ⌝ }
 {
     let called = call(node, request, frame, buffer);
     let told = called.answer;

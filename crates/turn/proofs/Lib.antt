@@ -1,1 +1,2 @@
+-- The laws of `turn`.
 pub mod Only

@@ -1,1 +1,2 @@
+-- The definitions of `turn`.
 pub mod Turn

@@ -29,9 +29,8 @@ returns c =
     let first = middle .before .before .before .before in
     let number = first .before in
     let item = number .before .before .before .before .args .item in
-    then
-    (then (named (ap (answerText item) (number .call-number .ensures)) (first .put-answer .ensures)) (middle .put-values .ensures))
-    (last .put-byte .ensures)
+    let answer = named (ap (answerText item) (number .call-number .ensures)) (first .put-answer .ensures) in
+    then (then answer (middle .put-values .ensures)) (last .put-byte .ensures)
 
 pub put-bench-line-spec : {M : Type 1} → statement M
 put-bench-line-spec =

@@ -70,7 +70,8 @@ returns-5 c =
     let called = c .before .before in
     let arm = called .before .before .before in
     let start = arm .before .before .before .before in
-    named (ap (λ a. valuesText a (now (start .args .sent))) (sym (arm .answer3 .given .1))) (called .put-confirm .ensures)
+    named (ap (λ a. valuesText a (now (start .args .sent))) (sym (arm .answer3 .given .1)))
+    (called .put-confirm .ensures)
 
 pub put-values-spec : {M : Type 1} → statement M
 put-values-spec =

@@ -32,7 +32,11 @@ returns c =
 returns-2 : tie.Need-returns-2
 returns-2 c =
     let kind = c .before in
-    rw (sym (kind .byte-at2 .ensures) ∙ c .match .keys2, kind .before .long-at .ensures, kind .before .before .byte-at .ensures)
+    rw (
+      sym (kind .byte-at2 .ensures) ∙ c .match .keys2,
+      kind .before .long-at .ensures,
+      kind .before .before .byte-at .ensures,
+    )
 
 returns-3 : tie.Need-returns-3
 returns-3 c =

@@ -92,7 +92,9 @@ returns : tie.Need-returns
 returns c = record { call = sym (as-found (c .before .before .before) _ (c .before .refusal .given .1)); bytes = refl }
 
 returns-2 : tie.Need-returns-2
-returns-2 c = record { call = sym (as-answered (c .before .before .before) _ (c .before .refusal2 .given .1)); bytes = refl }
+returns-2 c =
+    let roomed = c .before .before .before in
+    record { call = sym (as-answered roomed _ (c .before .refusal2 .given .1)); bytes = refl }
 
 same-length : tie.Need-same-length
 same-length c = search needs
@@ -101,9 +103,10 @@ returns-3 : tie.Need-returns-3
 returns-3 c =
     let at = c .before .before .before .before .before .before .before in
     let roomed = at .before .before in
+    let followed = at .fup .given .1 in
     record {
-      call = sym (as-answered roomed _ (at .fup .given .1));
-      bytes = rw (room _ _ _ (answered roomed _ (at .fup .given .1))) at (c .before .before .write-frame .ensures .bytes);
+      call = sym (as-answered roomed _ followed);
+      bytes = rw (room _ _ _ (answered roomed _ followed)) at (c .before .before .write-frame .ensures .bytes);
     }
 
 pub confirm-call-spec : {M : Type 1} → statement M

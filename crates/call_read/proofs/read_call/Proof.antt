@@ -60,7 +60,12 @@ returns-3 : tie.Need-returns-3
 returns-3 c =
     let at = c .before .before .before in
     let found = at .before .before .before .before in
-    rw (at .time-at .ensures, c .before .status-for .ensures, c .before .before .status-at .ensures, c .user-for .ensures)
+    rw (
+      at .time-at .ensures,
+      c .before .status-for .ensures,
+      c .before .before .status-at .ensures,
+      c .user-for .ensures,
+    )
     (sym (as-held (found .before .before) _ (found .base .given .1)))
 
 pub read-call-spec : {M : Type 1} → statement M

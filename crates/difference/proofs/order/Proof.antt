@@ -29,18 +29,26 @@ module _ (a b : GlobalTime) (m : ℕ) where
 
   same : AheadBy a b m → m ≡ 0 → Same ≡ orderOf a b
   same h e =
-      rw (le-ltb (nanosecondsOf a) (nanosecondsOf b) (h .from), le-ltb (nanosecondsOf b) (nanosecondsOf a) (omega arith))
+      rw (
+        le-ltb (nanosecondsOf a) (nanosecondsOf b) (h .from),
+        le-ltb (nanosecondsOf b) (nanosecondsOf a) (omega arith),
+      )
 
   later : AheadBy a b m → (m ≡ 0 → ⊥) → Later ≡ orderOf a b
   later h e =
-      rw (le-ltb (nanosecondsOf a) (nanosecondsOf b) (h .from), lt-ltb (nanosecondsOf b) (nanosecondsOf a) (omega arith))
+      rw (
+        le-ltb (nanosecondsOf a) (nanosecondsOf b) (h .from),
+        lt-ltb (nanosecondsOf b) (nanosecondsOf a) (omega arith),
+      )
 
 returns : tie.Need-returns
 returns c =
     let a = c .before .before .before .args in
     earlier (a .a) (a .b) _ (told-behind _ _ _ (sym (c .enum-told .given .1) ∙ c .before .before .compare .ensures))
 
-abbrev told : (c : tie.After-known-told) → let a = c .before .before .before .before .args in AheadBy (a .a) (a .b) (c .before .m .given .0 .0)
+abbrev told :
+    (c : tie.After-known-told) → let a = c .before .before .before .before .args in
+    AheadBy (a .a) (a .b) (c .before .m .given .0 .0)
 told c = told-ahead _ _ _ (sym (c .before .m .given .1) ∙ c .before .before .before .compare .ensures)
 
 returns-2 : tie.Need-returns-2

@@ -55,7 +55,8 @@ loop-again c =
     let args = at .before .before .args in (
       omega arith,
       simp length-set (at .loop .inv .1),
-      on (now (args .bytes)) (at .loop .list) (args .at) (at .loop .i) (c .byte-at .result) (omega arith) (search needs) (at .loop .inv .2),
+      on (now (args .bytes)) (at .loop .list) (args .at) (at .loop .i) (c .byte-at .result)
+          (omega arith) (search needs) (at .loop .inv .2),
     )
 
 returns : tie.Need-returns Inv-loop μ-loop
@@ -63,7 +64,9 @@ returns c =
     let at = c .before in
     let args = at .before .before .args in
     let all : at .loop .i ≡ 16 = omega arith in
-    sym (take-all (at .loop .i) (at .loop .list) (omega arith)) ∙ at .loop .inv .2 ∙ ap (λ (k : ℕ). bytesAt k (now (args .bytes)) (args .at)) all
+    sym (take-all (at .loop .i) (at .loop .list) (omega arith))
+    ∙ at .loop .inv .2
+    ∙ ap (λ (k : ℕ). bytesAt k (now (args .bytes)) (args .at)) all
 
 pub sixteen-at-spec : {M : Type 1} → statement M
 sixteen-at-spec =

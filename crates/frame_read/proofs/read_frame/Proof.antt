@@ -73,16 +73,24 @@ enum-told-5 : tie.Need-enum-told-5
 enum-told-5 c = search needs
 
 returns-2 : tie.Need-returns-2
-returns-2 c = ap (λ (v : Sync). Values (sync v)) (c .sync .ensures) ∙ told (c .before .before .before) PlainSync (c .before .enum-told .given .1)
+returns-2 c =
+    ap (λ (v : Sync). Values (sync v)) (c .sync .ensures)
+    ∙ told (c .before .before .before) PlainSync (c .before .enum-told .given .1)
 
 returns-3 : tie.Need-returns-3
-returns-3 c = ap (λ (v : Sync). Values (sync v)) (c .sync2 .ensures) ∙ told (c .before .before .before) SecuredSync (c .before .enum-told2 .given .1)
+returns-3 c =
+    ap (λ (v : Sync). Values (sync v)) (c .sync2 .ensures)
+    ∙ told (c .before .before .before) SecuredSync (c .before .enum-told2 .given .1)
 
 returns-4 : tie.Need-returns-4
-returns-4 c = ap (λ (v : Fup). Values (fup v)) (c .fup .ensures) ∙ told (c .before .before .before) PlainFup (c .before .enum-told3 .given .1)
+returns-4 c =
+    ap (λ (v : Fup). Values (fup v)) (c .fup .ensures)
+    ∙ told (c .before .before .before) PlainFup (c .before .enum-told3 .given .1)
 
 returns-5 : tie.Need-returns-5
-returns-5 c = ap (λ (v : Fup). Values (fup v)) (c .fup2 .ensures) ∙ told (c .before .before .before) SecuredFup (c .before .enum-told4 .given .1)
+returns-5 c =
+    ap (λ (v : Fup). Values (fup v)) (c .fup2 .ensures)
+    ∙ told (c .before .before .before) SecuredFup (c .before .enum-told4 .given .1)
 
 returns-6 : tie.Need-returns-6
 returns-6 c = told (c .before .before) Unknown (c .enum-told5 .given .1)

@@ -41,8 +41,10 @@ loop-again : tie.Need-loop-again Inv-loop μ-loop
 loop-again c =
     let at-loop = c .before in
     let args = at-loop .before .args in
-    let i = at-loop .loop .i in (
-      rw (at-loop .loop .inv .0, add-one i) (paste-suc (now (args .out)) (args .at) (args .t1) i 0 (omega arith) (omega (arith, good-length (eInt w8) 8 (args .t1) _ (at-loop .before .good .0)))),
+    let i = at-loop .loop .i in
+    let eight = good-length (eInt w8) 8 (args .t1) _ (at-loop .before .good .0) in (
+      rw (at-loop .loop .inv .0, add-one i)
+          (paste-suc (now (args .out)) (args .at) (args .t1) i 0 (omega arith) (omega (arith, eight))),
       omega arith,
       simp length-set (at-loop .loop .inv .2),
     )

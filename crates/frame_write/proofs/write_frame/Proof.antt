@@ -52,7 +52,8 @@ same-length c = search needs
 
 returns-3 : tie.Need-returns-3
 returns-3 c =
-    done _ _ _ _ (omega arith) _ _ (c .before .before .before .before .frame-bytes .ensures) (c .before .before .put .ensures)
+    let written = c .before .before in
+    done _ _ _ _ (omega arith) _ _ (written .before .before .frame-bytes .ensures) (written .put .ensures)
 
 pub write-frame-spec : {M : Type 1} → statement M
 write-frame-spec =

@@ -11,7 +11,8 @@ use Rattle.master_confirm.proofs.confirm.Tie as tie
 
 as-found :
     (c : tie.After-follow-up) (f : Follow) → c .follow-up .result ≡ f → let a = c .before .before .args in
-    confirmAs (followOf (a .domain .settings .«confirmation_time») (a .domain .sending) (a .t) (a .counter)) (a .domain) (a .counter)
+    confirmAs (followOf (a .domain .settings .«confirmation_time») (a .domain .sending) (a .t) (a .counter))
+    (a .domain) (a .counter)
     ≡ confirmAs f (a .domain) (a .counter)
 as-found c f e =
     let a = c .before .before .args in

@@ -31,7 +31,9 @@ cast-t9 : tie.Need-cast-t9
 cast-t9 c = search needs
 
 returns-2 : tie.Need-returns-2
-returns-2 c = rw (is-whole (c .before .before .before), le-leb _ _ (rw (is-whole (c .before .before .before)) at (c .if1 .left)))
+returns-2 c =
+    let whole = is-whole (c .before .before .before) in
+    rw (whole, le-leb _ _ (rw whole at (c .if1 .left)))
 
 pub follow-from-spec : {M : Type 1} → statement M
 follow-from-spec =

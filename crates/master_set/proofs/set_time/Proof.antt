@@ -16,7 +16,9 @@ next-update-requires : tie.Need-next-update-requires
 next-update-requires c κs = search needs
 
 returns-2 : tie.Need-returns-2
-returns-2 c = rw (le-leb _ _ (c .before .before .before .before .if1 .left), c .before .new .ensures, c .next-update .ensures)
+returns-2 c =
+    let made = c .before in
+    rw (le-leb _ _ (made .before .before .before .if1 .left), made .new .ensures, c .next-update .ensures)
 
 pub set-time-spec : {M : Type 1} → statement M
 set-time-spec = tie.close (tie.spec returns new-requires next-update-requires returns-2)

@@ -85,14 +85,16 @@ loop-again c =
     let begun = at .before .before .before in (
       omega arith,
       simp length-set (at .loop .inv .1),
-      on (begun .args .t1) (at .loop .records) (at .loop .d) _ _ (omega (arith, long begun)) (omega (arith, at .loop .inv .1)) (c .new2 .ensures) (at .loop .inv .2),
+      on (begun .args .t1) (at .loop .records) (at .loop .d) _ _ (omega (arith, long begun))
+          (omega (arith, at .loop .inv .1)) (c .new2 .ensures) (at .loop .inv .2),
     )
 
 returns : tie.Need-returns Inv-loop μ-loop
 returns c =
     let at = c .before in
     let begun = at .before .before .before in
-    all (begun .args .t1) (at .loop .records) (at .loop .d) (omega (arith, at .loop .inv .1)) (omega (arith, long begun)) (at .loop .inv .2)
+    all (begun .args .t1) (at .loop .records) (at .loop .d)
+    (omega (arith, at .loop .inv .1)) (omega (arith, long begun)) (at .loop .inv .2)
 
 pub fresh-records-spec : {M : Type 1} → statement M
 fresh-records-spec =

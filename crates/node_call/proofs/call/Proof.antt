@@ -36,9 +36,11 @@ cycled {n} {t} given {before} told =
     }
 
 confirmed :
-    {n : Node} {domain : ℕ} {t : VirtualLocalTime} {counter : ℕ} (given : List ℕ) {before after : List ℕ} {r : NodeConfirm} →
+    {n : Node} {domain : ℕ} {t : VirtualLocalTime} {counter : ℕ} (given : List ℕ) {before after : List ℕ}
+    {r : NodeConfirm} →
     NodeConfirmedIn n domain t counter before r after →
-    CalledIn n (asked.Confirm domain t counter) given before (record { answer = Confirm (r .answer); node = r .node }) after
+    CalledIn n (asked.Confirm domain t counter) given before
+    (record { answer = Confirm (r .answer); node = r .node }) after
 confirmed {n} {domain} given {before} told =
     record {
       answer = ap (λ s. Confirm (s .answer)) (told .call);
@@ -84,7 +86,8 @@ returns c =
 
 returns-2 : tie.Need-returns-2
 returns-2 c =
-    arm (c .before .before .request2 .given .1) (record { answer = ap Read (c .on-read .ensures); node = refl; bytes = refl })
+    arm (c .before .before .request2 .given .1)
+    (record { answer = ap Read (c .on-read .ensures); node = refl; bytes = refl })
 
 returns-3 : tie.Need-returns-3
 returns-3 c =

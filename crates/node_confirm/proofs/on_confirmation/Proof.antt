@@ -41,14 +41,15 @@ returns c =
     let at = called .before .before .before .before .before in
     let a = at .args in
     let found = looked-up (a .t1) _ (at .good .0) (a .domain % 16) _ (omega arith) in
+    let out = now (a .out) in
     record {
       call =
           ap (confirmStored (a .t1) (a .domain % 16))
           (called .confirm-call .ensures .call
-          ∙ ap (λ (d : Domain). confirmCallOf d (a .t1 .kept) (a .domain) (a .t) (a .counter) (length (now (a .out)))) found);
+          ∙ ap (λ (d : Domain). confirmCallOf d (a .t1 .kept) (a .domain) (a .t) (a .counter) (length out)) found);
       bytes =
           called .confirm-call .ensures .bytes
-          ∙ ap (λ (d : Domain). confirmBytes (called .confirm-call .result .answer) (d .settings .ids) (now (a .out))) found;
+          ∙ ap (λ (d : Domain). confirmBytes (called .confirm-call .result .answer) (d .settings .ids) out) found;
     }
 
 pub on-confirmation-spec : {M : Type 1} → statement M

@@ -24,7 +24,9 @@ module _ (n : Node) (t : VirtualLocalTime) (length : ℕ) where
   short : isGoodReading (n .kept) t ≡ true → isRoomFor n length ≡ false → cycleRefused n NoRoom ≡ nodeCycleOf n t length
   short e f = rw (e, f)
 
-  done : isGoodReading (n .kept) t ≡ true → isRoomFor n length ≡ true → cycledBy n t (goneFrom n t) ≡ nodeCycleOf n t length
+  done :
+      isGoodReading (n .kept) t ≡ true → isRoomFor n length ≡ true →
+      cycledBy n t (goneFrom n t) ≡ nodeCycleOf n t length
   done e f = rw (e, f)
 
   abbrev counted : Round → NodeCycle
@@ -40,7 +42,8 @@ is-good-reading-requires c κs = search needs
 returns : tie.Need-returns
 returns c =
     let a = c .before .before .before .before .args in
-    record { call = early (a .node) (a .t) _ (sym (c .before .is-good-reading .ensures) ∙ not-true _ (c .if1 .taken)); bytes = refl }
+    let bad = sym (c .before .is-good-reading .ensures) ∙ not-true _ (c .if1 .taken) in
+    record { call = early (a .node) (a .t) _ bad; bytes = refl }
 
 cast-if2 : tie.Need-cast-if2
 cast-if2 c = search needs
@@ -52,11 +55,8 @@ returns-2 : tie.Need-returns-2
 returns-2 c =
     let tested = c .before .before in
     let a = tested .before .before .before .before .args in
-    record {
-      call =
-          short (a .node) (a .t) _ (sym (tested .before .is-good-reading .ensures) ∙ not-false _ (tested .if1 .left)) (lt-leb _ _ (c .if2 .taken));
-      bytes = refl;
-    }
+    let good = sym (tested .before .is-good-reading .ensures) ∙ not-false _ (tested .if1 .left) in
+    record { call = short (a .node) (a .t) _ good (lt-leb _ _ (c .if2 .taken)); bytes = refl }
 
 go-round-requires : tie.Need-go-round-requires
 go-round-requires c κs = search needs
@@ -70,10 +70,11 @@ returns-3 c =
     let roomy = round .before .before .before in
     let tested = roomy .before .before in
     let a = tested .before .before .before .before .args in
+    let good = sym (tested .before .is-good-reading .ensures) ∙ not-false _ (tested .if1 .left) in
     record {
       call =
           ap (counted (a .node) (a .t) 0) (round .go-round .ensures .round)
-          ∙ done (a .node) (a .t) _ (sym (tested .before .is-good-reading .ensures) ∙ not-false _ (tested .if1 .left)) (le-leb _ _ (roomy .if2 .left));
+          ∙ done (a .node) (a .t) _ good (le-leb _ _ (roomy .if2 .left));
       bytes = round .go-round .ensures .bytes;
     }
 

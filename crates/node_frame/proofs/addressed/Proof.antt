@@ -18,7 +18,8 @@ cast-result c = search needs
 
 returns : tie.Need-returns
 returns c =
-    sym (ap (λ (byte : ℕ). domainOf byte % 16) (List·getD-eq-default (now (c .before .args .bytes)) 0 {n = 2} (omega arith)))
+    let none = List·getD-eq-default (now (c .before .args .bytes)) 0 {n = 2} (omega arith) in
+    sym (ap (λ (byte : ℕ). domainOf byte % 16) none)
 
 returns-2 : tie.Need-returns-2
 returns-2 c = search needs

@@ -40,11 +40,12 @@ returns c =
     let called = c .before .before in
     let at = called .before .before .before in
     let a = at .before .before .args in
+    let bytes = now (a .bytes) in
     ap (frameStored (a .t1) (at .addressed .result))
     (called .frame-call .ensures
-    ∙ ap (λ (d : Domain). frameCallOf d (a .t1 .kept) (a .t) (now (a .bytes)))
+    ∙ ap (λ (d : Domain). frameCallOf d (a .t1 .kept) (a .t) bytes)
     (looked-up (a .t1) _ (at .before .before .good .0) _ _ (below at)))
-    ∙ ap (λ (i : ℕ). frameStored (a .t1) i (frameCallOf (recordAt (a .t1 .domains) i) (a .t1 .kept) (a .t) (now (a .bytes))))
+    ∙ ap (λ (i : ℕ). frameStored (a .t1) i (frameCallOf (recordAt (a .t1 .domains) i) (a .t1 .kept) (a .t) bytes))
     (at .addressed .ensures)
 
 pub on-frame-spec : {M : Type 1} → statement M

@@ -54,7 +54,9 @@ is-good-requires c κs = search needs
 returns : tie.Need-returns Inv-loop μ-loop
 returns c =
     let at = c .before .before .before .before in
-    stop (at .before .args .t1) (at .loop .d) _ _ (omega (arith, long (at .before))) (c .before .is-good .ensures) (not-true _ (c .if1 .taken)) (at .loop .inv .1)
+    let begun = at .before in
+    stop (begun .args .t1) (at .loop .d) _ _ (omega (arith, long begun)) (c .before .is-good .ensures)
+    (not-true _ (c .if1 .taken)) (at .loop .inv .1)
 
 add-d : tie.Need-add-d Inv-loop μ-loop
 add-d c = omega arith
@@ -64,9 +66,11 @@ loop-less c = omega arith
 
 loop-again : tie.Need-loop-again Inv-loop μ-loop
 loop-again c =
-    let at = c .before .before .before .before in (
+    let at = c .before .before .before .before in
+    let begun = at .before in (
       omega arith,
-      on (at .before .args .t1) (at .loop .d) _ _ (omega (arith, long (at .before))) (c .before .is-good .ensures) (not-false _ (c .if1 .left)) (at .loop .inv .1),
+      on (begun .args .t1) (at .loop .d) _ _ (omega (arith, long begun)) (c .before .is-good .ensures)
+          (not-false _ (c .if1 .left)) (at .loop .inv .1),
     )
 
 returns-2 : tie.Need-returns-2 Inv-loop μ-loop

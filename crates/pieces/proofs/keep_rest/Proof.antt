@@ -53,8 +53,9 @@ least-requires c κs = tt
 
 loop-holds : tie.Need-loop-holds Inv-loop μ-loop
 loop-holds c =
-    let start = c .before .before in
-    (paste-zero (now (start .args .input)) 0 (drop (start .args .used) (now (start .args .input))), omega arith, omega arith, refl)
+    let args = c .before .before .args in
+    let input = now (args .input) in
+    (paste-zero input 0 (drop (args .used) input), omega arith, omega arith, refl)
 
 slice-read-input : tie.Need-slice-read-input Inv-loop μ-loop
 slice-read-input c = omega arith

@@ -15,7 +15,8 @@ returns c = search needs
 
 slice-aggregate-write-all : tie.Need-slice-aggregate-write-all
 slice-aggregate-write-all c =
-    sym (length-take-le (c .before .before .before .args .length) (now (c .before .before .before .args .out)) (omega arith))
+    let args = c .before .before .before .args in
+    sym (length-take-le (args .length) (now (args .out)) (omega arith))
 
 write-all-requires-2 : tie.Need-write-all-requires-2
 write-all-requires-2 c κs = search needs

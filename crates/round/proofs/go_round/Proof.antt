@@ -1,5 +1,6 @@
 -- `round::go_round` meets its contract. The invariant: what is left of the turns gives what all of them
 -- give (`Rest`), and a turn keeps it (`onward`). The measure is what is left of the 16.
+--   left-is   what is left, by another name for the number of turns
 -- Assumes nothing.
 use Prim.Native.Nat.{ℕ, suc, _+_, _-_, _%_, _≤_, _<_}
 use mathlib.Core.Path.{_≡_, refl, sym, ap, _∙_, subst}
@@ -7,9 +8,10 @@ use mathlib.Core.List.{List}
 use native.Mathlib.Nat.{mod-lt}
 use native.Mathlib.Omega.{arith}
 use lib.ListN.{length, length-set}
-use denote.Ref.{now}
 use borrow.Author.Needs.{needs}
-use Rattle.round.specs.Round.{roundOf}
+use Rattle.clock.specs.declared.reading.VirtualLocalTime.{VirtualLocalTime}
+use Rattle.domain.specs.declared.Domain.{Domain}
+use Rattle.round.specs.Round.{Gone, roundOf}
 use Rattle.round.proofs.Turns.{getD-any, sent-least, Rest, onward, at-end}
 use Rattle.round.proofs.go_round.Statement.{statement}
 use Rattle.round.proofs.go_round.Tie as tie
@@ -22,12 +24,24 @@ Inv-loop first t most out₀ records₀ at₀ next₀ sent₀ turns₀ out recor
 abbrev μ-loop : tie.MeasureT-loop
 μ-loop first t most out₀ records₀ at₀ next₀ sent₀ turns₀ out records at next sent turns = 16 - turns
 
+left-is :
+    {whole : Gone} {first out : List ℕ} {most k j at sent next : ℕ} {t : VirtualLocalTime} {ds : List Domain} →
+    Rest whole first most t k at sent ds next out → k ≡ j → Rest whole first most t j at sent ds next out
+left-is {whole} {first} {out} {most} {at} {sent} {next} {t} {ds} r e =
+    subst (λ (x : ℕ). Rest whole first most t x at sent ds next out) e r
+
 cast-at : tie.Need-cast-at Inv-loop μ-loop
 cast-at c = search needs
 
 loop-holds : tie.Need-loop-holds Inv-loop μ-loop
-loop-holds c =
-    (omega arith, omega arith, omega arith, c .before .good .0 .1 .0 .1, refl, record { domains = refl; next-one = refl; count = omega arith; bytes = refl })
+loop-holds c = (
+  omega arith,
+  omega arith,
+  omega arith,
+  c .before .good .0 .1 .0 .1,
+  refl,
+  record { domains = refl; next-one = refl; count = omega arith; bytes = refl },
+)
 
 mul-record : tie.Need-mul-record Inv-loop μ-loop
 mul-record c = omega arith
@@ -68,25 +82,27 @@ loop-again c =
     let turn = put .before .before .before in
     let seen = turn .before .before .before in
     let now-at = seen .before .before in
-    let inv = now-at .loop .inv in
-    let args = now-at .before .before .args in (
+    let inv = now-at .loop .inv in (
       omega arith,
       omega arith,
       omega (arith, put .put .ensures .count, sent-least (turn .turn .result .answer) (now-at .loop .sent)),
       simp length-set (inv .3),
       c .before .before .out .given ∙ inv .4,
-      onward _ _ _ _ _ _ _ _ _ _ _ _ _ _ _ _ (turn .turn .ensures) (getD-any (now-at .loop .records) (now-at .loop .at) _ _ (omega (arith, inv .3))) refl (put .put .ensures .count) (put .put .ensures .bytes) (c .next-after .ensures)
-          (subst (λ (k : ℕ). Rest (roundOf (args .domains) (args .first) (args .t) (args .most)) (now (args .out)) (args .most) (args .t) k (now-at .loop .at) (now-at .loop .sent) (now-at .loop .records) (now-at .loop .next) (now-at .loop .out)) (omega arith) (inv .5)),
+      onward _ _ _ _ _ _ _ _ _ _ _ _ _ _ _ _
+          (turn .turn .ensures)
+          (getD-any (now-at .loop .records) (now-at .loop .at) _ _ (omega (arith, inv .3)))
+          refl
+          (put .put .ensures .count)
+          (put .put .ensures .bytes)
+          (c .next-after .ensures)
+          (left-is (inv .5) (omega arith)),
     )
 
 same-length : tie.Need-same-length Inv-loop μ-loop
 same-length c = c .before .loop .inv .4
 
 returns : tie.Need-returns Inv-loop μ-loop
-returns c =
-    let inv = c .before .loop .inv in
-    let args = c .before .before .before .args in
-    at-end _ _ _ _ _ _ _ _ _ _ (subst (λ (k : ℕ). Rest (roundOf (args .domains) (args .first) (args .t) (args .most)) (now (args .out)) (args .most) (args .t) k (c .before .loop .at) (c .before .loop .sent) (c .before .loop .records) (c .before .loop .next) (c .before .loop .out)) (omega arith) (inv .5))
+returns c = at-end _ _ _ _ _ _ _ _ _ _ (left-is (c .before .loop .inv .5) (omega arith))
 
 pub go-round-spec : {M : Type 1} → statement M
 go-round-spec =

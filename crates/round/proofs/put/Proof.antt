@@ -1,3 +1,5 @@
+-- `round::put` meets its contract: the frame is written at its place, and counted.
+-- Assumes nothing.
 use borrow.Author.Needs.{needs}
 use Rattle.round.proofs.put.Statement.{statement}
 use Rattle.round.proofs.put.Tie as tie
@@ -24,7 +26,9 @@ same-length : tie.Need-same-length
 same-length c = search needs
 
 returns : tie.Need-returns
-returns c = record { count = rw (c .before .before .before .before .before .answer .given .1); bytes = rw (c .before .before .before .before .before .answer .given .1) (c .before .before .write-frame .ensures .bytes) }
+returns c =
+    let sent = c .before .before .before .before .before .answer .given .1 in
+    record { count = rw sent; bytes = rw sent (c .before .before .write-frame .ensures .bytes) }
 
 returns-2 : tie.Need-returns-2
 returns-2 c = search needs

@@ -7,7 +7,8 @@ use Rattle.runs.proofs.run_all.Statement.{statement}
 use Rattle.runs.proofs.run_all.Tie as tie
 
 abbrev Inv-loop : tie.InvT-loop
-Inv-loop program input₀ out₀ run₀ turns₀ input out run turns = (length input ≡ length input₀) × (length out ≡ length out₀)
+Inv-loop program input₀ out₀ run₀ turns₀ input out run turns =
+    (length input ≡ length input₀) × (length out ≡ length out₀)
 
 abbrev μ-loop : tie.MeasureT-loop
 μ-loop program input₀ out₀ run₀ turns₀ input out run turns = turns

@@ -16,7 +16,9 @@ since-requires : tie.Need-since-requires
 since-requires c κs = search needs
 
 returns : tie.Need-returns
-returns c = rw (c .before .before .before .last .given .1, lt-ltb _ _ (rw (c .before .since .ensures) at (c .if1 .taken)))
+returns c =
+    let at = c .before in
+    rw (at .before .before .last .given .1, lt-ltb _ _ (rw (at .since .ensures) at (c .if1 .taken)))
 
 add-step : tie.Need-add-step
 add-step c = search needs
@@ -27,7 +29,11 @@ sub-step c = search needs
 returns-2 : tie.Need-returns-2
 returns-2 c =
     let at = c .before .before in
-    rw (at .before .before .last .given .1, le-ltb _ _ (rw (at .since .ensures) at (c .before .if1 .left)), lt-leb _ _ (c .if2 .taken))
+    rw (
+      at .before .before .last .given .1,
+      le-ltb _ _ (rw (at .since .ensures) at (c .before .if1 .left)),
+      lt-leb _ _ (c .if2 .taken),
+    )
 
 returns-3 : tie.Need-returns-3
 returns-3 c =

@@ -25,12 +25,14 @@ returns c = search needs
 returns-2 : tie.Need-returns-2
 returns-2 c =
     let at = c .before in
-    (rw (at .before .before .before .base .given .1, lt-ltb _ _ (rw (at .since .ensures) at (c .if1 .taken))), omega arith)
+    let base = at .before .before .before .base in
+    (rw (base .given .1, lt-ltb _ _ (rw (at .since .ensures) at (c .if1 .taken))), omega arith)
 
 returns-3 : tie.Need-returns-3
 returns-3 c =
     let at = c .before in
-    (rw (at .before .before .before .base .given .1, le-ltb _ _ (rw (at .since .ensures) at (c .if1 .left))), omega arith)
+    let base = at .before .before .before .base in
+    (rw (base .given .1, le-ltb _ _ (rw (at .since .ensures) at (c .if1 .left))), omega arith)
 
 pub base-bits-spec : {M : Type 1} → statement M
 base-bits-spec =

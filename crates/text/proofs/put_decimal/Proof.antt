@@ -25,9 +25,10 @@ same-length c = search needs
 returns : tie.Need-returns
 returns c =
     let called = c .before .before .before .before .before in
+    let n = called .before .before .before .args .n in
     let decimal = called .decimal in
     named
-    (decimal .ensures .1 .1 ∙ spells 19 (called .before .before .before .args .n) (decimal .result) (omega arith) (decimal .ensures .1 .0))
+    (decimal .ensures .1 .1 ∙ spells 19 n (decimal .result) (omega arith) (decimal .ensures .1 .0))
     (c .before .before .put-bytes .ensures)
 
 pub put-decimal-spec : {M : Type 1} → statement M

@@ -44,15 +44,14 @@ loop-again c =
       omega arith,
     )
 
-same-length : tie.Need-same-length Inv-loop μ-loop
-same-length c =
-    let start = c .before .before .before .before in
-    length-kept (ended (ap hexOf (drop-of-length-le (now (start .args .bytes)) {i = c .before .loop .i} (omega arith))) (c .before .loop .inv .0))
-
 returns : tie.Need-returns Inv-loop μ-loop
 returns c =
-    let start = c .before .before .before .before in
-    ended (ap hexOf (drop-of-length-le (now (start .args .bytes)) {i = c .before .loop .i} (omega arith))) (c .before .loop .inv .0)
+    let at-loop = c .before in
+    let bytes = now (at-loop .before .before .before .args .bytes) in
+    ended (ap hexOf (drop-of-length-le bytes {i = at-loop .loop .i} (omega arith))) (at-loop .loop .inv .0)
+
+same-length : tie.Need-same-length Inv-loop μ-loop
+same-length c = length-kept (returns c)
 
 pub put-hex-spec : {M : Type 1} → statement M
 put-hex-spec =

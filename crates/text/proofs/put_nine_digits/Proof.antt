@@ -46,15 +46,18 @@ loop-again : tie.Need-loop-again Inv-loop μ-loop
 loop-again c =
     let at-loop = c .before .before .before .before .before in
     let left = at-loop .loop .left in
+    let n = at-loop .before .before .args .n in
     let power = power-next left _ (omega arith) (at-loop .loop .inv .1) in (
-      turn (digits-next left (at-loop .before .before .args .n) _ (omega arith) power) (c .before .before .put-byte .ensures) (at-loop .loop .inv .0),
+      turn (digits-next left n _ (omega arith) power) (c .before .before .put-byte .ensures) (at-loop .loop .inv .0),
       power,
     )
 
 returns : tie.Need-returns Inv-loop μ-loop
 unfolding digits
 returns c =
-    ended (ap (λ k. digits k (c .before .before .before .args .n)) {x = c .before .loop .left} {y = 0} (omega arith)) (c .before .loop .inv .0)
+    let at-loop = c .before in
+    let n = at-loop .before .before .args .n in
+    ended (ap (λ k. digits k n) {x = at-loop .loop .left} {y = 0} (omega arith)) (at-loop .loop .inv .0)
 
 same-length : tie.Need-same-length Inv-loop μ-loop
 same-length c = length-kept (returns c)

@@ -1,4 +1,5 @@
--- `trial_line::put_trial_line` meets its contract: the answer, then what it adds, then the end of the line. Assumes nothing.
+-- `trial_line::put_trial_line` meets its contract: the answer, then what it adds, then the end of the line.
+-- Assumes nothing.
 use mathlib.Core.Path.{ap}
 use borrow.Author.Needs.{needs}
 use Rattle.text.proofs.Laws.{then, named}
@@ -29,7 +30,9 @@ returns c =
     let number = first .before in
     let item = number .before .before .before .before .args .item in
     then
-    (then (named (ap (answerText item) (number .call-number .ensures)) (first .put-answer .ensures)) (middle .put-values .ensures))
+    (then
+    (named (ap (answerText item) (number .call-number .ensures)) (first .put-answer .ensures))
+    (middle .put-values .ensures))
     (last .put-byte .ensures)
 
 pub put-trial-line-spec : {M : Type 1} → statement M

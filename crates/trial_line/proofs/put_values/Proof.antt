@@ -1,4 +1,5 @@
--- `trial_line::put_values` meets its contract: each arm knows the answer, and its calls write what it adds. Assumes nothing.
+-- `trial_line::put_values` meets its contract: each arm knows the answer, and its calls write what it adds.
+-- Assumes nothing.
 use mathlib.Core.Path.{sym, ap, _∙_}
 use denote.Ref.{now}
 use borrow.Author.Needs.{needs}
@@ -86,8 +87,8 @@ returns-5 : tie.Need-returns-5
 returns-5 c =
     let called = c .before .before in
     let arm = called .before .before in
-    let start = arm .before .before .before .before in
-    named (ap (λ a. valuesText a (now (start .args .buffer))) (sym (arm .enum-told3 .given .1))) (called .put-buffer2 .ensures)
+    let buffer = now (arm .before .before .before .before .args .buffer) in
+    named (ap (λ a. valuesText a buffer) (sym (arm .enum-told3 .given .1))) (called .put-buffer2 .ensures)
 
 pub put-values-spec : {M : Type 1} → statement M
 put-values-spec =

@@ -45,17 +45,35 @@ returns c = rw (← c .before .before .byte-at .ensures, c .before .match .keys1
 returns-2 : tie.Need-returns-2
 returns-2 c =
     let read = c .before .before in
-    rw (← read .before .before .byte-at .ensures, read .before .match .keys2, ← read .byte-at2 .ensures, ← c .before .mode-of .ensures) (c .slave .ensures)
+    rw (
+      ← read .before .before .byte-at .ensures,
+      read .before .match .keys2,
+      ← read .byte-at2 .ensures,
+      ← c .before .mode-of .ensures,
+    )
+    (c .slave .ensures)
 
 returns-3 : tie.Need-returns-3
 returns-3 c =
     let read = c .before .before in
-    rw (← read .before .before .byte-at .ensures, read .before .match .keys3, ← read .byte-at3 .ensures, ← c .before .sends-as .ensures) (c .master .ensures)
+    rw (
+      ← read .before .before .byte-at .ensures,
+      read .before .match .keys3,
+      ← read .byte-at3 .ensures,
+      ← c .before .sends-as .ensures,
+    )
+    (c .master .ensures)
 
 returns-4 : tie.Need-returns-4
 returns-4 c =
     let none = c .before .match .rest in
-    rw (← c .before .before .byte-at .ensures, ne-eqb _ _ (none .0 .0 .1), ne-eqb _ _ (none .0 .1), ne-eqb _ _ (none .1)) (c .no-settings .ensures)
+    rw (
+      ← c .before .before .byte-at .ensures,
+      ne-eqb _ _ (none .0 .0 .1),
+      ne-eqb _ _ (none .0 .1),
+      ne-eqb _ _ (none .1),
+    )
+    (c .no-settings .ensures)
 
 pub domain-of-spec : {M : Type 1} → statement M
 domain-of-spec =

@@ -65,7 +65,10 @@ loop-again c =
     let args = at .before .before .before .args in (
       omega arith,
       simp length-set (at .loop .inv .1),
-      on (now (args .item)) (at .loop .domains) (args .blocks) (at .loop .d) _ (omega (arith, at .loop .inv .1)) (c .one-of .ensures) (at .loop .inv .2),
+      on (now (args .item)) (at .loop .domains) (args .blocks) (at .loop .d) _
+          (omega (arith, at .loop .inv .1))
+          (c .one-of .ensures)
+          (at .loop .inv .2),
     )
 
 returns : tie.Need-returns Inv-loop μ-loop

@@ -61,7 +61,16 @@ returns-2 c =
     let ids = c .before .before .before in
     let long2 = ids .before .before in
     let known = long2 .before .before in
-    rw (long2 .before .long-at .ensures, ids .before .confirmation-time .ensures, long2 .long-at2 .ensures, ids .ids-at .ensures, c .before .before .byte-at .ensures, c .before .byte-at2 .ensures, c .byte-at3 .ensures, known .before .sends .given .1)
+    rw (
+      long2 .before .long-at .ensures,
+      ids .before .confirmation-time .ensures,
+      long2 .long-at2 .ensures,
+      ids .ids-at .ensures,
+      c .before .before .byte-at .ensures,
+      c .before .byte-at2 .ensures,
+      c .byte-at3 .ensures,
+      known .before .sends .given .1,
+    )
 
 pub master-spec : {M : Type 1} → statement M
 master-spec =

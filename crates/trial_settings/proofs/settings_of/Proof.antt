@@ -27,7 +27,12 @@ domains-of-requires c κs = search needs
 returns-2 : tie.Need-returns-2
 returns-2 c =
     let first = c .before .before .before in
-    rw (← first .byte-at .ensures, le-ltb 16 (first .byte-at .result) (omega arith), c .before .byte-at2 .ensures, c .domains-of .ensures)
+    rw (
+      ← first .byte-at .ensures,
+      le-ltb 16 (first .byte-at .result) (omega arith),
+      c .before .byte-at2 .ensures,
+      c .domains-of .ensures,
+    )
 
 pub settings-of-spec : {M : Type 1} → statement M
 settings-of-spec =

@@ -57,7 +57,15 @@ returns-2 c =
     let long4 = c .before .before in
     let long2 = long4 .before .before in
     let known = long2 .before .before in
-    rw (long2 .before .long-at .ensures, long2 .long-at2 .ensures, long4 .before .long-at3 .ensures, long4 .long-at4 .ensures, c .before .ids-at .ensures, c .byte-at .ensures, known .before .mode .given .1)
+    rw (
+      long2 .before .long-at .ensures,
+      long2 .long-at2 .ensures,
+      long4 .before .long-at3 .ensures,
+      long4 .long-at4 .ensures,
+      c .before .ids-at .ensures,
+      c .byte-at .ensures,
+      known .before .mode .given .1,
+    )
 
 pub slave-spec : {M : Type 1} → statement M
 slave-spec =

@@ -42,13 +42,15 @@ take-replicate (suc n) zero a h = absurd (omega arith)
 take-replicate (suc n) (suc m) a h = ap (λ (l : List ℕ). a ∷ l) (take-replicate n m a (omega arith))
 
 asked :
-    {n : Node} {item : ℕ} {q : Request} (bytes : List ℕ) {frame before after : List ℕ} {count lent at : ℕ} {r : TrialStep} →
+    {n : Node} {item : ℕ} {q : Request} (bytes : List ℕ) {frame before after : List ℕ} {count lent at : ℕ}
+    {r : TrialStep} →
     frame ≡ frameOf bytes → count ≡ getD bytes 3 0 → lent ≡ lentLength q bytes →
     TrialCalled n item q (take count frame) (take lent (replicate 512 0xA5)) at before r after →
     TrialAsked n item q bytes at before r after
 asked {n} {item} {q} bytes {frame} {before} {after} {count} {lent} {at} {r} e f g p =
     let h : lent ≤ 512 = omega (arith, lent-most q bytes) in
-    subst (λ xs. TrialCalled n item q xs (replicate (lentLength q bytes) 0xA5) at before r after) (λ i. take (f i) (e i))
+    subst (λ xs. TrialCalled n item q xs (replicate (lentLength q bytes) 0xA5) at before r after)
+    (λ i. take (f i) (e i))
     (subst (λ xs. TrialCalled n item q (take count frame) xs at before r after)
     (take-replicate lent 512 0xA5 h ∙ ap (λ (k : ℕ). replicate k 0xA5) g)
     p)
@@ -82,7 +84,8 @@ array-borrow-prefix-buffer c =
 
 slice-aggregate-answer-2 : tie.Need-slice-aggregate-answer-2
 slice-aggregate-answer-2 c =
-    sym (length-take-le (c .before .before .lent-length .result) (replicate 512 0xA5) (array-borrow-prefix-buffer (c .before)))
+    let lent = c .before .before .lent-length .result in
+    sym (length-take-le lent (replicate 512 0xA5) (array-borrow-prefix-buffer (c .before)))
 
 answer-requires : tie.Need-answer-requires
 answer-requires c κs = search needs
@@ -95,7 +98,11 @@ returns c =
     let answered = c .before .before .before in
     let lent = answered .before .before .before .before in
     let read = lent .before in
-    asked (now (read .before .before .before .before .args .bytes)) (read .before .frame-of .ensures) (read .byte-at .ensures) (lent .lent-length .ensures) (answered .answer .ensures)
+    asked (now (read .before .before .before .before .args .bytes))
+    (read .before .frame-of .ensures)
+    (read .byte-at .ensures)
+    (lent .lent-length .ensures)
+    (answered .answer .ensures)
 
 pub ask-spec : {M : Type 1} → statement M
 ask-spec =

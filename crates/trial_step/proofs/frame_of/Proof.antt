@@ -34,12 +34,13 @@ turn :
 turn bytes i byte h e =
     let first : 255 - i ≡ suc (254 - i) = omega arith in
     let rest : 254 - i ≡ 255 - (i + 1) = omega arith in
+    let more = sym (bytes-at-suc i bytes 12) ∙ ap (λ (k : ℕ). bytesAt k bytes 12) (sym (add-one i)) in
     ap (λ (k : ℕ). set (bytesAt i bytes 12 ++ replicate k 0) i byte) first
     ∙ set-at (bytesAt i bytes 12) 0 (replicate (254 - i) 0) byte i (length-bytes-at i bytes 12)
     ∙ ap (λ (b : ℕ). bytesAt i bytes 12 ++ b ∷ replicate (254 - i) 0) e
     ∙ ap (λ (k : ℕ). bytesAt i bytes 12 ++ getD bytes (12 + i) 0 ∷ replicate k 0) rest
     ∙ sym (append-snoc (bytesAt i bytes 12) (getD bytes (12 + i) 0) (replicate (255 - (i + 1)) 0))
-    ∙ ap (λ (l : List ℕ). l ++ replicate (255 - (i + 1)) 0) (sym (bytes-at-suc i bytes 12) ∙ ap (λ (k : ℕ). bytesAt k bytes 12) (sym (add-one i)))
+    ∙ ap (λ (l : List ℕ). l ++ replicate (255 - (i + 1)) 0) more
 
 loop-holds : tie.Need-loop-holds Inv-loop μ-loop
 loop-holds c = (omega arith, refl)

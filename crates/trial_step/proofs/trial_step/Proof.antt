@@ -25,12 +25,14 @@ module _ (n : Node) (item : ℕ) (bytes : List ℕ) (at : ℕ) (before : List �
   renewed {r} {after} e p = subst (λ b. SteppedAs b n item bytes at before r after) (sym e) p
 
   bad :
-      {end : ℕ} {after : List ℕ} → isSettings bytes ≡ false → askedBy bytes ≡ Bad → Puts (badText item) at before end after →
+      {end : ℕ} {after : List ℕ} → isSettings bytes ≡ false → askedBy bytes ≡ Bad →
+      Puts (badText item) at before end after →
       TrialStepped n item bytes at before (record { node = n; at = end; «goes_on» = false }) after
   bad {end} {after} e f p =
       let r : TrialStep = record { node = n; at = end; «goes_on» = false } in
       subst (λ b. SteppedAs b n item bytes at before r after) (sym e)
-      (subst (λ a. CalledAs a n item bytes at before r after) (sym f) (record { node = refl; «goes_on» = refl; line = p }))
+      (subst (λ a. CalledAs a n item bytes at before r after) (sym f)
+      (record { node = refl; «goes_on» = refl; line = p }))
 
   asked :
       {q : Request} {r : TrialStep} {after : List ℕ} →

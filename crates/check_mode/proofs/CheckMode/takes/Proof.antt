@@ -70,13 +70,17 @@ returns-2 : tie.Need-returns-2
 returns-2 c = c .takes-plain .ensures ∙ told (c .before .before .before) PlainSync (c .before .enum-told .given .1)
 
 returns-3 : tie.Need-returns-3
-returns-3 c = c .takes-secured .ensures ∙ told (c .before .before .before .before) SecuredSync (c .before .before .enum-told2 .given .1)
+returns-3 c =
+    let arm = c .before .before in
+    c .takes-secured .ensures ∙ told (arm .before .before) SecuredSync (arm .enum-told2 .given .1)
 
 returns-4 : tie.Need-returns-4
 returns-4 c = c .takes-plain2 .ensures ∙ told (c .before .before .before) PlainFup (c .before .enum-told3 .given .1)
 
 returns-5 : tie.Need-returns-5
-returns-5 c = c .takes-secured2 .ensures ∙ told (c .before .before .before .before) SecuredFup (c .before .before .enum-told4 .given .1)
+returns-5 c =
+    let arm = c .before .before in
+    c .takes-secured2 .ensures ∙ told (arm .before .before) SecuredFup (arm .enum-told4 .given .1)
 
 returns-6 : tie.Need-returns-6
 returns-6 c = told (c .before .before) Unknown (c .enum-told5 .given .1)

@@ -19,12 +19,20 @@ all-good-requires c κs = search needs
 returns-3 : tie.Need-returns-3
 returns-3 c =
     let at = c .before .before .before in
-    rw (le-leb _ _ (at .before .before .if1 .left), le-leb _ _ (at .if2 .left), sym (c .before .all-good .ensures) ∙ c .if3 .taken)
+    rw (
+      le-leb _ _ (at .before .before .if1 .left),
+      le-leb _ _ (at .if2 .left),
+      sym (c .before .all-good .ensures) ∙ c .if3 .taken,
+    )
 
 returns-4 : tie.Need-returns-4
 returns-4 c =
     let at = c .before .before .before in
-    rw (le-leb _ _ (at .before .before .if1 .left), le-leb _ _ (at .if2 .left), sym (c .before .all-good .ensures) ∙ c .if3 .left)
+    rw (
+      le-leb _ _ (at .before .before .if1 .left),
+      le-leb _ _ (at .if2 .left),
+      sym (c .before .all-good .ensures) ∙ c .if3 .left,
+    )
 
 pub judge-spec : {M : Type 1} → statement M
 judge-spec = tie.close (tie.spec returns returns-2 all-good-requires returns-3 returns-4)

@@ -29,10 +29,14 @@ is-past-requires : tie.Need-is-past-requires
 is-past-requires c κs = search needs
 
 returns-2 : tie.Need-returns-2
-returns-2 c = rw (sym (future (c .before .before .before)) ∙ c .before .before .if1 .left, sym (past (c .before)) ∙ c .if2 .taken)
+returns-2 c =
+    let else = c .before .before in
+    rw (sym (future (else .before)) ∙ else .if1 .left, sym (past (c .before)) ∙ c .if2 .taken)
 
 returns-3 : tie.Need-returns-3
-returns-3 c = rw (sym (future (c .before .before .before)) ∙ c .before .before .if1 .left, sym (past (c .before)) ∙ c .if2 .left)
+returns-3 c =
+    let else = c .before .before in
+    rw (sym (future (else .before)) ∙ else .if1 .left, sym (past (c .before)) ∙ c .if2 .left)
 
 pub leap-of-spec : {M : Type 1} → statement M
 leap-of-spec = tie.close (tie.spec is-future-requires returns is-past-requires returns-2 returns-3)

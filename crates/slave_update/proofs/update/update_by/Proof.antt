@@ -41,7 +41,9 @@ returns c = rw (c .enum-told .given .1)
 
 returns-2 : tie.Need-returns-2
 returns-2 c =
-    rw (c .leap-of .ensures, same (c .before), moved (c .before), c .before .before .before .before .before .before .old .given .1)
+    let at = c .before in
+    let old = at .before .before .before .before .before .old in
+    rw (c .leap-of .ensures, same at, moved at, old .given .1)
 
 pub update-by-spec : {M : Type 1} → statement M
 update-by-spec =
