@@ -142,15 +142,15 @@ EachTimeHeld =
     (b : TimeBase) → slaveRecord k h .base ≡ Set b → TimeOfOne k h b
 
 -- ---- "from some moment": sent, or heard, at it or later
+abbrev pub since : {A : Type 0} → (A → ℕ) → (moment : ℕ) → List A → List A
+since at moment [] = []
+since at moment (x ∷ older) = cond (leb moment (at x)) (x ∷ since at moment older) (since at moment older)
+
 abbrev pub sentSince : Link → (moment : ℕ) → List Sent → List Sent
-sentSince k moment [] = []
-sentSince k moment (s ∷ older) =
-    cond (leb moment (onMaster k (s .at))) (s ∷ sentSince k moment older) (sentSince k moment older)
+sentSince k = since (λ (s : Sent). onMaster k (s .at))
 
 abbrev pub heardSince : Link → (moment : ℕ) → List Heard → List Heard
-heardSince k moment [] = []
-heardSince k moment (s ∷ older) =
-    cond (leb moment (onSlave k (s .at))) (s ∷ heardSince k moment older) (heardSince k moment older)
+heardSince k = since (λ (x : Heard). onSlave k (x .at))
 
 -- ---- "only newly sent frames arrive, all of them, once and in order": what is heard are copies of what is sent,
 -- one of each, but for those sent last, which are under way

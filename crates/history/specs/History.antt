@@ -145,8 +145,8 @@ isSync s = eqb (getD (s .bytes) 0 0) 0x10 || eqb (getD (s .bytes) 0 0) 0x20
 abbrev pub isFup : Sent → Bool
 isFup s = eqb (getD (s .bytes) 0 0) 0x18 || eqb (getD (s .bytes) 0 0) 0x28
 
--- ---- Heard: "each frame call that passes tests 2 to 5 in the domain". "A copy arrives at the reading of the
--- frame call that hands it in."
+-- ---- Heard: what a frame call hands in that passes tests 2 to 5 in the domain. "A copy arrives at the reading of
+-- the frame call that hands it in."
 abbrev pub isRead : Read → (domain : ℕ) → Bool
 isRead LengthNot8 domain = false
 isRead NoSuchType domain = false

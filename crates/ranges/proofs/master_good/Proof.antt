@@ -32,7 +32,7 @@ returns-4 c = simp (period (c .before .before), le-leb _ _ (c .before .if3 .left
 
 returns-5 : tie.Need-returns-5
 returns-5 c =
-    simp (
+    rw (
       period (c .before .before .before),
       le-leb _ _ (c .before .before .if3 .left),
       le-leb _ _ (c .before .if4 .left),
