@@ -1,7 +1,12 @@
 // What a call tests before it steps a record (paper 01, "Refusal numbers", 1 and 4): the reading, and whether
 // the record is that of the domain asked for, in the role needed. No record is taken here: the tests go by a
 // record's number and role. A frame's tests are in `frame_admission`.
+mod frames;
+
 use clock::VirtualLocalTime;
+pub use frames::FrameAdmission;
+pub use frames::admit_frame;
+pub use frames::domain_in;
 use refusal::Refusal;
 use settings::Role;
 ghost use mathlib.Core.Path.{_≡_};

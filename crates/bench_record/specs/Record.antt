@@ -5,7 +5,7 @@ use mathlib.Core.List.{List}
 use lib.Dec.{eqb}
 use lib.ListN.{getD}
 use Rattle.clock.specs.declared.reading.VirtualLocalTime.{VirtualLocalTime}
-use Rattle.fields.specs.Fields.{wordAt, longAt}
+use Rattle.text.specs.Fields.{wordAt, longAt}
 use Rattle.node_call.specs.declared.Request.the-variants.{Frame, Read, Set, Cycle, Confirm}
 use Rattle.bench_record.specs.declared.Asked.{Asked}
 use Rattle.bench_record.specs.declared.Asked.the-variants.{Call, Bad}

@@ -1,10 +1,10 @@
 // A record of 20 bytes (paper 01, "Bench program"): the mark C7 3A, a kind, a domain, the reading and a
 // payload of 8 bytes. What a kind does not use may be anything.
 use clock::VirtualLocalTime;
-use fields::byte_at;
-use fields::long_at;
-use fields::word_at;
 use node_call::Request;
+use text::fields::byte_at;
+use text::fields::long_at;
+use text::fields::word_at;
 ghost use mathlib.Core.Path.{_≡_};
 ghost use Rattle.bench_record.specs.Record.{askedBy, requestOf};
 

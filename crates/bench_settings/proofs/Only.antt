@@ -2,7 +2,7 @@
 use mathlib.Core.Path.{_≡_}
 use Rattle.promise.specs.Only.{OnlyOne}
 use Rattle.promise.proofs.Laws.{equation-only}
-use Rattle.node_settings.specs.declared.NodeSettings.{NodeSettings}
+use Rattle.settings.specs.declared.node_settings.NodeSettings.{NodeSettings}
 use Rattle.bench_settings.specs.Bench.{benchWith}
 
 pub bench-settings-only : OnlyOne (λ (r : NodeSettings). r ≡ benchWith 2)

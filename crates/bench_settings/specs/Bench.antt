@@ -2,11 +2,11 @@
 use Prim.Native.Nat.{ℕ}
 use mathlib.Core.List.{_∷_}
 use lib.ListN.{replicate}
-use Rattle.check_mode.specs.declared.CheckMode.the-variants.{Validated, NotValidated}
+use Rattle.frame_check.specs.declared.CheckMode.the-variants.{Validated, NotValidated}
 use Rattle.settings.specs.declared.domain_settings.DomainSettings.{DomainSettings}
 use Rattle.settings.specs.declared.domain_settings.Role.the-variants.{Slave, Master}
 use Rattle.settings.specs.declared.domain_settings.Security.the-variants.{Plain}
-use Rattle.node_settings.specs.declared.NodeSettings.{NodeSettings}
+use Rattle.settings.specs.declared.node_settings.NodeSettings.{NodeSettings}
 use Rattle.settings.specs.Domain.{absentHeld}
 
 -- ---- "domain 1 slave, not validated, J 2, F 100 ms, L 2 s, both thresholds 500 ms", with any J

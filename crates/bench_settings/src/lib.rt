@@ -1,8 +1,8 @@
 // The bench's settings (paper 01, "Bench program").
-use check_mode::CheckMode;
 use frame::DataIds;
-use node_settings::NodeSettings;
+use frame_check::CheckMode;
 use settings::DomainSettings;
+use settings::NodeSettings;
 use settings::Role;
 use settings::Security;
 use settings::UserBytes;

@@ -4,9 +4,9 @@ use mathlib.Core.Path.{_≡_}
 use mathlib.Core.Bool.{true, false}
 use mathlib.Core.List.{List}
 use lib.ListN.{replicate}
-use Rattle.fields.specs.Fields.{bytesAt}
+use Rattle.text.specs.Fields.{bytesAt}
 use Rattle.text.specs.Text.{Puts}
-use Rattle.lines.specs.Lines.{badText}
+use Rattle.text.specs.Lines.{badText}
 use Rattle.node.specs.declared.Node.{Node}
 use Rattle.node_call.specs.declared.Request.{Request}
 use Rattle.node_call.specs.Calls.{Call, nodeAfter}
@@ -14,7 +14,7 @@ use Rattle.node_call.specs.Called.{callOf, answerOf, bytesAfter}
 use Rattle.bench_record.specs.declared.Asked.{Asked}
 use Rattle.bench_record.specs.declared.Asked.the-variants as asked
 use Rattle.bench_record.specs.Record.{askedBy}
-use Rattle.bench_line.specs.BenchLine.{benchLine}
+use Rattle.bench_step.specs.BenchLine.{benchLine}
 use Rattle.bench_step.specs.declared.BenchStep.{BenchStep}
 
 -- ---- "a payload (8 bytes)"

@@ -1,12 +1,14 @@
 // A record of the bench (paper 01, "Bench program"): the call it asks for, and its line.
-use bench_line::put_bench_line;
+pub mod line;
+
+use crate::line::put_bench_line;
 use bench_record::Asked;
 use bench_record::asked_by;
-use fields::byte_at;
-use lines::put_bad;
 use node::Node;
 use node_call::Request;
 use node_call::call;
+use text::fields::byte_at;
+use text::lines::put_bad;
 ghost use mathlib.Core.Path.{_≡_};
 ghost use Rattle.bench_step.specs.Step.{payloadOf, BenchCalled, BenchStepped};
 

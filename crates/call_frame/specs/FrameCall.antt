@@ -3,9 +3,9 @@
 use Prim.Native.Nat.{ℕ}
 use mathlib.Core.List.{List}
 use Rattle.clock.specs.declared.reading.VirtualLocalTime.{VirtualLocalTime}
-use Rattle.frame_admission.specs.declared.FrameAdmission.{FrameAdmission}
-use Rattle.frame_admission.specs.declared.FrameAdmission.the-variants.{Admitted, Refused as refused}
-use Rattle.frame_admission.specs.FrameAdmission.{frameAdmitted}
+use Rattle.admission.specs.declared.frames.FrameAdmission.{FrameAdmission}
+use Rattle.admission.specs.declared.frames.FrameAdmission.the-variants.{Admitted, Refused as refused}
+use Rattle.admission.specs.FrameAdmission.{frameAdmitted}
 use Rattle.domain.specs.declared.Domain.{Domain}
 use Rattle.slave_update.specs.declared.answer.FrameAnswer.the-variants.{Refused}
 use Rattle.slave_update.specs.Answer.{frameNumber}

@@ -1,10 +1,10 @@
 // A frame for one record (paper 01, "A slave's domain" and "Refusal numbers").
+use admission::FrameAdmission;
+use admission::admit_frame;
 use answers::frame_number;
 use answers::kept_after;
 use clock::VirtualLocalTime;
 use domain::Domain;
-use frame_admission::FrameAdmission;
-use frame_admission::admit_frame;
 use slave_frame::take_frame;
 use slave_update::FrameAnswer;
 ghost use mathlib.Core.Path.{_≡_};

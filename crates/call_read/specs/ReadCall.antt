@@ -14,7 +14,7 @@ use Rattle.admission.specs.declared.Admission.the-variants.{Admitted, Refused a
 use Rattle.admission.specs.declared.Needed.the-variants.{Either}
 use Rattle.admission.specs.Admission.{admittedOf}
 use Rattle.domain.specs.declared.Domain.{Domain}
-use Rattle.slave_show.specs.Status.{statusOf}
+use Rattle.slave_status.specs.Status.{statusOf}
 use Rattle.answers.specs.declared.Shown.{Shown}
 use Rattle.answers.specs.declared.ReadAnswer.{ReadAnswer}
 use Rattle.answers.specs.declared.ReadAnswer.the-variants.{Time, Refused}

@@ -11,7 +11,7 @@ use domain::Domain;
 use refusal::Refusal;
 use settings::Role;
 use settings::UserBytes;
-use slave_show::status_at;
+use slave_status::status_at;
 ghost use mathlib.Core.Path.{_≡_};
 ghost use Rattle.call_read.specs.ReadCall.{statusFor, userFor, readCallOf};
 

@@ -2,3 +2,5 @@
 pub mod Reading
 pub mod Time
 pub mod Base
+pub mod Apart
+pub mod Difference

@@ -2,8 +2,8 @@
 // bits, and the thresholds. A time is written as seconds and nanoseconds, a reading as nanoseconds.
 use clock::GlobalTime;
 use clock::TimeBase;
+use clock::TimeOrder;
 use clock::VirtualLocalTime;
-use difference::TimeOrder;
 use libc::STDOUT_FILENO;
 
 fn main() {
@@ -130,12 +130,12 @@ fn difference(s: u64, n: u32, r: u64, m: u32) {
     number(n as u64);
     number(r);
     number(m as u64);
-    match difference::order(a, b) {
+    match clock::order(a, b) {
         TimeOrder::Earlier => word(b" earlier"),
         TimeOrder::Same => word(b" same"),
         TimeOrder::Later => word(b" later"),
     }
-    signed(difference::minus(a, b));
+    signed(clock::minus(a, b));
     word(b"\n");
 }
 
@@ -145,7 +145,7 @@ fn signed(d: i64) {
     } else {
         word(b" ");
     }
-    io::print_decimal(STDOUT_FILENO, difference::magnitude(d));
+    io::print_decimal(STDOUT_FILENO, clock::magnitude(d));
 }
 
 fn thresholds() {
@@ -166,10 +166,10 @@ fn threshold(d: i64, limit: u64) {
     signed(d);
     number(limit);
     word(b" future");
-    answer(difference::exceeds(d, limit));
+    answer(clock::exceeds(d, limit));
     word(b"threshold");
     signed(d);
     number(limit);
     word(b" past");
-    answer(difference::minus_exceeds(d, limit));
+    answer(clock::minus_exceeds(d, limit));
 }

@@ -24,13 +24,13 @@ use Rattle.frame.specs.declared.values.Frame.{Frame}
 use Rattle.frame.specs.declared.values.Frame.the-variants.{Sync as sync, Fup as fup}
 use Rattle.frame_read.specs.declared.Read.{Read}
 use Rattle.frame_read.specs.declared.Read.the-variants.{Values, LengthNot8}
-use Rattle.check_mode.specs.declared.CheckMode.{CheckMode}
+use Rattle.frame_check.specs.declared.CheckMode.{CheckMode}
 use Rattle.frame.specs.Types.{typeOf}
 use Rattle.frame.specs.ByteTwo.{byteTwoOf}
 use Rattle.frame.specs.Ids.{idAt}
 use Rattle.frame_read.specs.Read.{readOf, valuesOf, wordOf, syncOf, fupOf}
 use Rattle.frame_write.specs.Write.{flags, restOf, framedOf, bytesOf}
-use Rattle.check_mode.specs.Check.{isGood, isRight, takesSecured}
+use Rattle.frame_check.specs.Check.{isGood, isRight, takesSecured}
 use Rattle.frame_laws.specs.RoundTrip.{FrameFits, protectionOf, takesKind, AreBytes, zeroReserved, rightIfSecured}
 
 -- ---- read-back

@@ -15,14 +15,14 @@ use Rattle.frame.specs.declared.types.FrameType.the-variants.{
   SecuredFup,
   Unknown,
 }
-use Rattle.check_mode.specs.declared.CheckMode.{CheckMode}
+use Rattle.frame_check.specs.declared.CheckMode.{CheckMode}
 use Rattle.frame.specs.declared.values.Protection.{Protection}
 use Rattle.frame.specs.declared.values.Protection.the-variants.{Plain, Secured}
 use Rattle.frame.specs.declared.values.Sync.{Sync}
 use Rattle.frame.specs.declared.values.Fup.{Fup}
 use Rattle.frame.specs.declared.values.Frame.{Frame}
 use Rattle.frame.specs.declared.values.Frame.the-variants.{Sync as sync, Fup as fup}
-use Rattle.check_mode.specs.Check.{isRight, takesPlain, takesSecured}
+use Rattle.frame_check.specs.Check.{isRight, takesPlain, takesSecured}
 
 -- ---- values that fit their bits
 pub record SyncFits (s : Sync) : Type 0 where

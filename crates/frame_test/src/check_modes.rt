@@ -2,7 +2,7 @@
 use crate::inputs::eight;
 use crate::inputs::ids;
 use crate::line;
-use check_mode::CheckMode;
+use frame_check::CheckMode;
 
 // A plain SYNC and a plain FUP; then a secured SYNC and a secured FUP, each with the right check
 // byte, with one bit of it off, the lowest and the highest, and with that of the other kind's list.

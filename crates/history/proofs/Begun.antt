@@ -8,10 +8,10 @@ use native.Mathlib.Omega.{arith}
 use lib.ListN.{length, getD}
 use Rattle.settings.specs.declared.domain_settings.DomainSettings.{DomainSettings}
 use Rattle.settings.specs.Domain.{absentHeld}
-use Rattle.node_settings.specs.declared.NodeSettings.{NodeSettings}
-use Rattle.node_settings.specs.declared.Verdict.{Verdict}
-use Rattle.node_settings.specs.declared.Verdict.the-variants.{Good}
-use Rattle.node_settings.specs.Node.{judgedOf}
+use Rattle.settings.specs.declared.node_settings.NodeSettings.{NodeSettings}
+use Rattle.settings.specs.declared.node_settings.Verdict.{Verdict}
+use Rattle.settings.specs.declared.node_settings.Verdict.the-variants.{Good}
+use Rattle.settings.specs.Node.{judgedOf}
 use Rattle.domain.specs.Fresh.{freshOf}
 use Rattle.round.specs.Records.{recordAt}
 use Rattle.node.specs.New.{recordsOf, newAs, newOf}

@@ -10,7 +10,7 @@ use lib.Dec.{eqb}
 use Rattle.promise.proofs.Laws.{either}
 use Rattle.clock.specs.declared.reading.VirtualLocalTime.{VirtualLocalTime}
 use Rattle.clock.specs.declared.time.GlobalTime.{GlobalTime}
-use Rattle.node_frame.specs.Frame.{addressedBy}
+use Rattle.node.specs.Frame.{addressedBy}
 use Rattle.node_call.specs.Calls.{answerTo}
 use Rattle.history.specs.History.{
   Link,

@@ -13,16 +13,16 @@ use Rattle.frame.specs.declared.data_ids.DataIds.{DataIds}
 use Rattle.frame_read.specs.declared.Read.the-variants.{Values}
 use Rattle.frame_read.specs.Read.{readOf}
 use Rattle.frame_write.specs.Write.{bytesOf}
-use Rattle.check_mode.specs.declared.CheckMode.{CheckMode}
-use Rattle.check_mode.specs.declared.CheckMode.the-variants.{Validated, NotValidated, Ignored, Optional}
-use Rattle.check_mode.specs.Check.{isGood}
+use Rattle.frame_check.specs.declared.CheckMode.{CheckMode}
+use Rattle.frame_check.specs.declared.CheckMode.the-variants.{Validated, NotValidated, Ignored, Optional}
+use Rattle.frame_check.specs.Check.{isGood}
 use Rattle.frame_laws.proofs.Laws.{good-back}
 use Rattle.settings.specs.declared.domain_settings.DomainSettings.{DomainSettings}
 use Rattle.settings.specs.declared.domain_settings.Security.{Security}
 use Rattle.settings.specs.declared.domain_settings.Security.the-variants.{Plain, Secured}
 use Rattle.master_rules.specs.Sent.{protectionOf}
 use Rattle.master_follow.specs.Follow.{wholeOf, ovsOf}
-use Rattle.frame_admission.specs.FrameAdmission.{domainIn}
+use Rattle.admission.specs.FrameAdmission.{domainIn}
 use Rattle.history.specs.History.{Link, masterSettings, slaveSettings, Sent, sentIn, isRead, isHeard}
 use Rattle.history.specs.Demand.{Linked, ReadsAs, Reads, EachFrameHeard}
 use Rattle.history.proofs.Row.{syncValues}

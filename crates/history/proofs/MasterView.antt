@@ -38,8 +38,8 @@ use Rattle.settings.specs.declared.domain_settings.Role.the-variants.{Master}
 use Rattle.admission.specs.declared.Needed.the-variants.{Master as master}
 use Rattle.admission.specs.declared.Admission.{Admission}
 use Rattle.admission.specs.Reading.{isGoodReading}
-use Rattle.frame_admission.specs.declared.FrameAdmission.{FrameAdmission}
-use Rattle.frame_admission.specs.FrameAdmission.{domainIn, readFor}
+use Rattle.admission.specs.declared.frames.FrameAdmission.{FrameAdmission}
+use Rattle.admission.specs.FrameAdmission.{domainIn, readFor}
 use Rattle.domain.specs.declared.Domain.{Domain}
 use Rattle.domain.specs.declared.Sending.{Sending}
 use Rattle.domain.specs.declared.Sending.the-variants.{Never, Open, Confirmed}
@@ -60,12 +60,12 @@ use Rattle.call_confirm.specs.declared.ConfirmCall.{ConfirmCall}
 use Rattle.call_confirm.specs.ConfirmCall.{withRoom, confirmAnswered, confirmCallAs, confirmCallOf, confirmBytes}
 use Rattle.round.specs.Records.{recordAt}
 use Rattle.round.specs.Round.{framesBy, sentAfter, goes, pasted}
-use Rattle.turn.specs.Turn.{turnOf, nextAfter}
+use Rattle.round.specs.Turn.{turnOf, nextAfter}
 use Rattle.node.specs.declared.Node.{Node}
-use Rattle.node_frame.specs.Frame.{addressedBy}
-use Rattle.node_cycle.specs.declared.NodeCycle.{NodeCycle}
+use Rattle.node.specs.Frame.{addressedBy}
+use Rattle.node.specs.declared.cycles.NodeCycle.{NodeCycle}
 use Rattle.answers.specs.Cycle.{cycleCount}
-use Rattle.node_cycle.specs.Cycle.{isRoomFor, goneFrom, nodeCycleOf, cycleBytes}
+use Rattle.node.specs.Cycle.{isRoomFor, goneFrom, nodeCycleOf, cycleBytes}
 use Rattle.node_call.specs.Calls.{Call, frame, read, set, cycle, confirm, nodeAfter, follows as answers, answerTo}
 use Rattle.node_laws.specs.Good.{SentWithin, RoleGood, Good}
 use Rattle.node_laws.specs.Back.{Each, joined, IsEight}

@@ -11,11 +11,11 @@ use Rattle.refusal.specs.declared.Refusal.the-variants.{Settings}
 use Rattle.settings.specs.declared.domain_settings.DomainSettings.{DomainSettings}
 use Rattle.settings.specs.declared.domain_settings.Role.{Role}
 use Rattle.settings.specs.Domain.{absentHeld}
-use Rattle.ranges.specs.Ranges.{within, isGoodAs, isGood}
-use Rattle.ranges.proofs.Laws.{SlaveRange, MasterRange, slave-range, master-range}
-use Rattle.node_settings.specs.declared.NodeSettings.{NodeSettings}
-use Rattle.node_settings.specs.declared.Verdict.the-variants.{Good, Refused}
-use Rattle.node_settings.specs.Node.{allGood, judgedOf}
+use Rattle.settings.specs.Ranges.{within, isGoodAs, isGood}
+use Rattle.settings.proofs.ranges.Laws.{SlaveRange, MasterRange, slave-range, master-range}
+use Rattle.settings.specs.declared.node_settings.NodeSettings.{NodeSettings}
+use Rattle.settings.specs.declared.node_settings.Verdict.the-variants.{Good, Refused}
+use Rattle.settings.specs.Node.{allGood, judgedOf}
 use Rattle.node_laws.proofs.Told.{both}
 use Rattle.history.specs.History.{Link, masterSettings, slaveSettings}
 use Rattle.history.specs.Demand.{Linked}

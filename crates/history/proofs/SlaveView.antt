@@ -30,23 +30,23 @@ use Rattle.frame.specs.ByteTwo.{domainOf}
 use Rattle.frame_read.specs.declared.Read.{Read}
 use Rattle.frame_read.specs.declared.Read.the-variants.{LengthNot8, NoSuchType, Values}
 use Rattle.frame_read.specs.Read.{valuesOf, readOf}
-use Rattle.check_mode.specs.Check.{isGood}
+use Rattle.frame_check.specs.Check.{isGood}
 use Rattle.settings.specs.declared.domain_settings.DomainSettings.{DomainSettings}
 use Rattle.settings.specs.declared.domain_settings.Role.{Role}
 use Rattle.settings.specs.declared.domain_settings.Role.the-variants.{Slave}
 use Rattle.settings.specs.Domain.{slaveHeld, heldAs}
-use Rattle.node_settings.specs.declared.Verdict.{Verdict}
+use Rattle.settings.specs.declared.node_settings.Verdict.{Verdict}
 use Rattle.admission.specs.declared.Needed.the-variants.{Slave as slave, Master as master}
 use Rattle.admission.specs.declared.Admission.{Admission}
 use Rattle.admission.specs.declared.Admission.the-variants.{Admitted, Refused}
 use Rattle.admission.specs.Reading.{isGoodReading}
 use Rattle.admission.specs.Admission.{isIn, isFor, admittedOf}
-use Rattle.frame_admission.specs.declared.FrameAdmission.{FrameAdmission}
-use Rattle.frame_admission.specs.declared.FrameAdmission.the-variants.{
+use Rattle.admission.specs.declared.frames.FrameAdmission.{FrameAdmission}
+use Rattle.admission.specs.declared.frames.FrameAdmission.the-variants.{
   Admitted as frame-admitted,
   Refused as frame-refused,
 }
-use Rattle.frame_admission.specs.FrameAdmission.{domainIn, readFor, frameAdmitted}
+use Rattle.admission.specs.FrameAdmission.{domainIn, readFor, frameAdmitted}
 use Rattle.domain.specs.declared.Domain.{Domain}
 use Rattle.slave_pair.specs.declared.joining.Joined.{Joined}
 use Rattle.slave_pair.specs.declared.joining.Joined.the-variants.{With, Refused as not-joined}
@@ -67,9 +67,9 @@ use Rattle.call_confirm.specs.ConfirmCall.{withRoom, confirmAnswered, confirmCa
 use Rattle.round.specs.Records.{recordAt}
 use Rattle.node.specs.declared.Node.{Node}
 use Rattle.node.specs.New.{newAs}
-use Rattle.node_cycle.specs.declared.NodeCycle.{NodeCycle}
-use Rattle.node_cycle.specs.Cycle.{isRoomFor}
-use Rattle.node_frame.specs.Frame.{addressedBy}
+use Rattle.node.specs.declared.cycles.NodeCycle.{NodeCycle}
+use Rattle.node.specs.Cycle.{isRoomFor}
+use Rattle.node.specs.Frame.{addressedBy}
 use Rattle.node_call.specs.Calls.{Call, frame, read, set, cycle, confirm, nodeAfter, numbered, answerTo}
 use Rattle.node_laws.specs.Good.{Good}
 use Rattle.node_laws.proofs.Told.{either-told, both}

@@ -19,8 +19,8 @@ use Rattle.frame_write.specs.Write.{bytesOf}
 use Rattle.settings.specs.declared.domain_settings.DomainSettings.{DomainSettings}
 use Rattle.settings.specs.declared.domain_settings.Role.{Role}
 use Rattle.settings.specs.Domain.{masterHeld, heldOf, heldAs}
-use Rattle.ranges.specs.Ranges.{isGood}
-use Rattle.ranges.proofs.Laws.{master-range}
+use Rattle.settings.specs.Ranges.{isGood}
+use Rattle.settings.proofs.ranges.Laws.{master-range}
 use Rattle.domain.specs.declared.Domain.{Domain}
 use Rattle.domain.specs.declared.Sending.the-variants.{Open}
 use Rattle.domain.specs.Fresh.{freshOf}
@@ -28,7 +28,7 @@ use Rattle.master_rules.specs.Due.{hasWaited}
 use Rattle.master_send.specs.Send.{sentOf}
 use Rattle.master_confirm.specs.Confirm.{followedOf}
 use Rattle.master_follow.specs.Follow.{wholeOf, ovsOf}
-use Rattle.node_frame.specs.Frame.{addressedBy}
+use Rattle.node.specs.Frame.{addressedBy}
 use Rattle.node_call.specs.Calls.{answerTo}
 use Rattle.node_laws.specs.Good.{Good as Known}
 use Rattle.node_laws.proofs.Fresh.{new-good}

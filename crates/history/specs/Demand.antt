@@ -11,14 +11,14 @@ use Rattle.clock.specs.Reading.{isReading, spanOf}
 use Rattle.clock.specs.Time.{advanced}
 use Rattle.clock.specs.Base.{baseOf}
 use Rattle.frame.specs.declared.data_ids.DataIds.{DataIds}
-use Rattle.check_mode.specs.declared.CheckMode.{CheckMode}
-use Rattle.check_mode.specs.declared.CheckMode.the-variants.{Validated, NotValidated, Ignored, Optional}
-use Rattle.check_mode.specs.Check.{takesPlain}
+use Rattle.frame_check.specs.declared.CheckMode.{CheckMode}
+use Rattle.frame_check.specs.declared.CheckMode.the-variants.{Validated, NotValidated, Ignored, Optional}
+use Rattle.frame_check.specs.Check.{takesPlain}
 use Rattle.settings.specs.declared.domain_settings.Role.the-variants.{Slave, Master}
 use Rattle.settings.specs.declared.domain_settings.Security.{Security}
 use Rattle.settings.specs.declared.domain_settings.Security.the-variants.{Plain, Secured}
-use Rattle.node_settings.specs.declared.Verdict.the-variants.{Good}
-use Rattle.node_settings.specs.Node.{judgedOf}
+use Rattle.settings.specs.declared.node_settings.Verdict.the-variants.{Good}
+use Rattle.settings.specs.Node.{judgedOf}
 use Rattle.domain.specs.Updates.{nextUpdate}
 use Rattle.node_call.specs.Calls.{Call, frame, numbered, answerTo}
 use Rattle.node_laws.specs.Reachable.{IsCall, IsSettings}

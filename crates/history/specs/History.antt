@@ -16,16 +16,16 @@ use Rattle.clock.specs.Base.{timeAt}
 use Rattle.frame_read.specs.declared.Read.{Read}
 use Rattle.frame_read.specs.declared.Read.the-variants.{LengthNot8, NoSuchType, Values}
 use Rattle.frame_read.specs.Read.{readOf}
-use Rattle.check_mode.specs.Check.{isGood}
+use Rattle.frame_check.specs.Check.{isGood}
 use Rattle.settings.specs.declared.domain_settings.DomainSettings.{DomainSettings}
 use Rattle.settings.specs.Domain.{absentHeld}
-use Rattle.node_settings.specs.declared.NodeSettings.{NodeSettings}
+use Rattle.settings.specs.declared.node_settings.NodeSettings.{NodeSettings}
 use Rattle.domain.specs.declared.Domain.{Domain}
-use Rattle.frame_admission.specs.FrameAdmission.{domainIn}
+use Rattle.admission.specs.FrameAdmission.{domainIn}
 use Rattle.round.specs.Records.{recordAt}
 use Rattle.node.specs.declared.Node.{Node}
 use Rattle.node.specs.New.{newOf}
-use Rattle.node_frame.specs.Frame.{addressedBy}
+use Rattle.node.specs.Frame.{addressedBy}
 use Rattle.node_call.specs.Calls.{
   Call,
   frame,

@@ -24,8 +24,8 @@ use Rattle.clock.specs.Time.{advanced}
 use Rattle.node_laws.proofs.Told.{both}
 use Rattle.node_laws.proofs.Witness.{isCall, is-call}
 use Rattle.settings.specs.declared.domain_settings.Role.the-variants.{Slave, Master}
-use Rattle.node_settings.specs.declared.Verdict.the-variants.{Good}
-use Rattle.node_settings.specs.Node.{judgedOf}
+use Rattle.settings.specs.declared.node_settings.Verdict.the-variants.{Good}
+use Rattle.settings.specs.Node.{judgedOf}
 use Rattle.node_laws.specs.Reachable.{IsSettings}
 use Rattle.history.specs.History.{
   masterSettings,

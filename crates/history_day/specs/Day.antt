@@ -5,7 +5,7 @@ use mathlib.Core.List.{List, [], _∷_, _++_}
 use lib.ListN.{replicate, set as put}
 use Rattle.clock.specs.declared.base.TimeBase.{TimeBase}
 use Rattle.frame.specs.declared.data_ids.DataIds.{DataIds}
-use Rattle.check_mode.specs.declared.CheckMode.the-variants.{Validated, NotValidated}
+use Rattle.frame_check.specs.declared.CheckMode.the-variants.{Validated, NotValidated}
 use Rattle.settings.specs.declared.domain_settings.DomainSettings.{DomainSettings}
 use Rattle.settings.specs.declared.domain_settings.Security.the-variants.{Plain, Secured}
 use Rattle.node_call.specs.Calls.{frame, read, set, cycle, confirm}

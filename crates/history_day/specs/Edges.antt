@@ -5,7 +5,7 @@ use Prim.Native.Nat.{ℕ, zero, suc, _+_, _*_}
 use mathlib.Core.List.{List, [], _∷_, _++_}
 use lib.ListN.{replicate, set as put}
 use Rattle.clock.specs.declared.base.TimeBase.{TimeBase}
-use Rattle.check_mode.specs.declared.CheckMode.the-variants.{NotValidated}
+use Rattle.frame_check.specs.declared.CheckMode.the-variants.{NotValidated}
 use Rattle.settings.specs.declared.domain_settings.Security.the-variants.{Plain}
 use Rattle.node_call.specs.Calls.{frame, set, cycle, confirm}
 use Rattle.history.specs.History.{Link, Event, atMaster, atSlave, History}

@@ -5,8 +5,8 @@ use mathlib.Core.List.{List}
 use lib.ListN.{replicate}
 use Rattle.clock.specs.declared.reading.VirtualLocalTime.{VirtualLocalTime}
 use Rattle.frame.specs.declared.data_ids.DataIds.{DataIds}
-use Rattle.check_mode.specs.declared.CheckMode.{CheckMode}
-use Rattle.check_mode.specs.declared.CheckMode.the-variants.{Validated}
+use Rattle.frame_check.specs.declared.CheckMode.{CheckMode}
+use Rattle.frame_check.specs.declared.CheckMode.the-variants.{Validated}
 use Rattle.settings.specs.declared.domain_settings.DomainSettings.{DomainSettings}
 use Rattle.settings.specs.declared.domain_settings.Role.the-variants.{Slave, Master}
 use Rattle.settings.specs.declared.domain_settings.Security.{Security}

@@ -1,6 +1,6 @@
 // What the cases are given: settings of a master.
-use check_mode::CheckMode;
 use frame::DataIds;
+use frame_check::CheckMode;
 use settings::DomainSettings;
 use settings::Role;
 use settings::Security;

@@ -4,7 +4,7 @@
 use mathlib.Core.Path.{_≡_}
 use Rattle.promise.specs.Only.{OnlyOne}
 use Rattle.promise.proofs.Laws.{equation-only}
-use Rattle.node_settings.specs.declared.NodeSettings.{NodeSettings}
+use Rattle.settings.specs.declared.node_settings.NodeSettings.{NodeSettings}
 use Rattle.node.specs.declared.NewNode.{NewNode}
 use Rattle.node.specs.New.{newOf}
 

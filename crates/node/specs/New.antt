@@ -3,11 +3,11 @@ use Prim.Native.Nat.{ℕ, _+_}
 use mathlib.Core.List.{List, [], _∷_}
 use lib.ListN.{replicate}
 use Rattle.settings.specs.declared.domain_settings.DomainSettings.{DomainSettings}
-use Rattle.node_settings.specs.declared.NodeSettings.{NodeSettings}
-use Rattle.node_settings.specs.declared.Verdict.{Verdict}
-use Rattle.node_settings.specs.declared.Verdict.the-variants.{Good, Refused}
+use Rattle.settings.specs.declared.node_settings.NodeSettings.{NodeSettings}
+use Rattle.settings.specs.declared.node_settings.Verdict.{Verdict}
+use Rattle.settings.specs.declared.node_settings.Verdict.the-variants.{Good, Refused}
 use Rattle.settings.specs.Domain.{absentHeld}
-use Rattle.node_settings.specs.Node.{judgedOf}
+use Rattle.settings.specs.Node.{judgedOf}
 use Rattle.domain.specs.declared.Domain.{Domain}
 use Rattle.domain.specs.Fresh.{freshOf}
 use Rattle.node.specs.declared.Node.{Node}

@@ -2,11 +2,26 @@
 // functions of their own crates (`node_frame`, `node_read`, `node_set`, `node_cycle`, `node_confirm`), state by
 // value in and out. Each looks a record up, calls it or goes round, and stores what comes back. No call has
 // a `requires`; each answers, or refuses by a number, and then gives the node back as it was.
+mod confirms;
+mod cycles;
+mod frames;
+mod reads;
+mod sets;
+
 use clock::VirtualLocalTime;
+pub use confirms::NodeConfirm;
+pub use confirms::on_confirmation;
+pub use cycles::NodeCycle;
+pub use cycles::on_main_cycle;
 use domain::Domain;
-use node_settings::NodeSettings;
-use node_settings::Verdict;
+pub use frames::NodeFrame;
+pub use frames::on_frame;
+pub use reads::on_read;
+pub use sets::NodeSet;
+pub use sets::on_set;
 use settings::DomainSettings;
+use settings::NodeSettings;
+use settings::Verdict;
 ghost use mathlib.Core.Path.{_≡_};
 ghost use Rattle.node.specs.New.{recordsOf, freshNode, newOf};
 

@@ -10,11 +10,11 @@ use Rattle.master_confirm.specs.Confirm.{confirmNumber}
 use Rattle.answers.specs.Read.{readNumber}
 use Rattle.answers.specs.Cycle.{cycleNumber}
 use Rattle.node.specs.declared.Node.{Node}
-use Rattle.node_frame.specs.Frame.{nodeFrameOf}
-use Rattle.node_read.specs.Read.{nodeReadOf}
-use Rattle.node_set.specs.Set.{nodeSetOf}
-use Rattle.node_cycle.specs.Cycle.{nodeCycleOf, cycleBytes}
-use Rattle.node_confirm.specs.Confirm.{nodeConfirmOf, confirmedBytes}
+use Rattle.node.specs.Frame.{nodeFrameOf}
+use Rattle.node.specs.Read.{nodeReadOf}
+use Rattle.node.specs.Set.{nodeSetOf}
+use Rattle.node.specs.Cycle.{nodeCycleOf, cycleBytes}
+use Rattle.node.specs.Confirm.{nodeConfirmOf, confirmedBytes}
 use Rattle.node_call.specs.declared.Request.{Request}
 use Rattle.node_call.specs.declared.Request.the-variants as asked
 use Rattle.node_call.specs.declared.CallAnswer.{CallAnswer}

@@ -12,12 +12,12 @@ use Rattle.answers.specs.Read.{readNumber, readValues}
 use Rattle.call_confirm.specs.ConfirmCall.{confirmBytes}
 use Rattle.round.specs.Records.{recordAt}
 use Rattle.node.specs.declared.Node.{Node}
-use Rattle.node_frame.specs.Frame.{nodeFrameOf}
-use Rattle.node_read.specs.Read.{nodeReadOf}
-use Rattle.node_set.specs.Set.{nodeSetOf}
+use Rattle.node.specs.Frame.{nodeFrameOf}
+use Rattle.node.specs.Read.{nodeReadOf}
+use Rattle.node.specs.Set.{nodeSetOf}
 use Rattle.answers.specs.Cycle.{cycleNumber, cycleCount}
-use Rattle.node_cycle.specs.Cycle.{nodeCycleOf, cycleBytes}
-use Rattle.node_confirm.specs.Confirm.{nodeConfirmOf, confirmedBytes}
+use Rattle.node.specs.Cycle.{nodeCycleOf, cycleBytes}
+use Rattle.node.specs.Confirm.{nodeConfirmOf, confirmedBytes}
 
 -- ---- A call; a lent buffer by what it holds.
 pub data Call : Type 0 where

@@ -30,8 +30,8 @@ use Rattle.refusal.specs.declared.Refusal.{Refusal}
 use Rattle.refusal.specs.declared.Refusal.the-variants.{Ovs}
 use Rattle.settings.specs.declared.domain_settings.Role.{Role}
 use Rattle.settings.specs.declared.domain_settings.Role.the-variants.{Absent, Slave, Master}
-use Rattle.ranges.specs.Ranges.{isGoodAs}
-use Rattle.ranges.proofs.Laws.{master-range}
+use Rattle.settings.specs.Ranges.{isGoodAs}
+use Rattle.settings.proofs.ranges.Laws.{master-range}
 use Rattle.domain.specs.declared.Domain.{Domain}
 use Rattle.domain.specs.declared.Sending.{Sending}
 use Rattle.domain.specs.declared.Sending.the-variants.{Never, Open, Confirmed}

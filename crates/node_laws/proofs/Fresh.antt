@@ -14,12 +14,12 @@ use Rattle.clock.specs.declared.base.Held.the-variants.{Unset}
 use Rattle.settings.specs.declared.domain_settings.DomainSettings.{DomainSettings}
 use Rattle.settings.specs.declared.domain_settings.Role.{Role}
 use Rattle.settings.specs.declared.domain_settings.Role.the-variants.{Absent, Slave, Master}
-use Rattle.node_settings.specs.declared.NodeSettings.{NodeSettings}
-use Rattle.node_settings.specs.declared.Verdict.{Verdict}
-use Rattle.ranges.specs.Ranges.{within, isGood}
+use Rattle.settings.specs.declared.node_settings.NodeSettings.{NodeSettings}
+use Rattle.settings.specs.declared.node_settings.Verdict.{Verdict}
+use Rattle.settings.specs.Ranges.{within, isGood}
 use Rattle.settings.specs.Domain.{absentHeld, heldAs}
-use Rattle.node_settings.specs.Node.{allGood}
-use Rattle.ranges.proofs.Laws.{held-good}
+use Rattle.settings.specs.Node.{allGood}
+use Rattle.settings.proofs.ranges.Laws.{held-good}
 use Rattle.settings.proofs.Laws.{held-twice}
 use Rattle.domain.specs.declared.Domain.{Domain}
 use Rattle.domain.specs.declared.Pairing.the-variants.{Waiting}

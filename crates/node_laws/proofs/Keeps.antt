@@ -11,11 +11,11 @@ use borrow.Author.Tests.{ne-eqb}
 use Rattle.clock.specs.declared.reading.VirtualLocalTime.{VirtualLocalTime}
 use Rattle.refusal.specs.declared.Refusal.{Refusal}
 use Rattle.admission.specs.Admission.{admittedOf}
-use Rattle.frame_admission.specs.FrameAdmission.{frameAdmitted}
+use Rattle.admission.specs.FrameAdmission.{frameAdmitted}
 use Rattle.admission.specs.declared.Admission.{Admission}
 use Rattle.admission.specs.declared.Admission.the-variants.{Admitted, Refused as refused}
-use Rattle.frame_admission.specs.declared.FrameAdmission.{FrameAdmission}
-use Rattle.frame_admission.specs.declared.FrameAdmission.the-variants.{
+use Rattle.admission.specs.declared.frames.FrameAdmission.{FrameAdmission}
+use Rattle.admission.specs.declared.frames.FrameAdmission.the-variants.{
   Admitted as frame-admitted,
   Refused as frame-refused,
 }

@@ -25,14 +25,14 @@ use Rattle.domain.specs.declared.Domain.{Domain}
 use Rattle.master_rules.specs.Due.{isMaster, dueOf}
 use Rattle.master_send.specs.Send.{sendAs}
 use Rattle.round.specs.Records.{recordAt}
-use Rattle.turn.specs.Turn.{turnOf, nextAfter}
+use Rattle.round.specs.Turn.{turnOf, nextAfter}
 use Rattle.round.specs.Round.{sentAfter, goes}
 use Rattle.node.specs.declared.Node.{Node}
-use Rattle.node_cycle.specs.declared.NodeCycle.{NodeCycle}
+use Rattle.node.specs.declared.cycles.NodeCycle.{NodeCycle}
 use Rattle.node.specs.Store.{storedIn}
-use Rattle.node_frame.specs.Frame.{addressedBy}
+use Rattle.node.specs.Frame.{addressedBy}
 use Rattle.answers.specs.Cycle.{cycleNumber, cycleCount}
-use Rattle.node_cycle.specs.Cycle.{isRoomFor, nodeCycleOf, cycleBytes}
+use Rattle.node.specs.Cycle.{isRoomFor, nodeCycleOf, cycleBytes}
 use Rattle.node_call.specs.Calls.{
   Call,
   frame,

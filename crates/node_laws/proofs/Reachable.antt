@@ -38,12 +38,12 @@ use Rattle.answers.specs.declared.ReadAnswer.the-variants.{Time}
 use Rattle.domain.specs.declared.Domain.{Domain}
 use Rattle.round.specs.Records.{recordAt}
 use Rattle.node.specs.declared.Node.{Node}
-use Rattle.node_cycle.specs.declared.NodeCycle.{NodeCycle}
+use Rattle.node.specs.declared.cycles.NodeCycle.{NodeCycle}
 use Rattle.node.specs.Store.{storedIn}
-use Rattle.node_frame.specs.Frame.{addressedBy}
-use Rattle.node_read.specs.Read.{nodeReadOf}
-use Rattle.node_confirm.specs.Confirm.{nodeConfirmOf, confirmedBytes}
-use Rattle.node_cycle.specs.Cycle.{isRoomFor, goneFrom, cycledBy, nodeCycleOf}
+use Rattle.node.specs.Frame.{addressedBy}
+use Rattle.node.specs.Read.{nodeReadOf}
+use Rattle.node.specs.Confirm.{nodeConfirmOf, confirmedBytes}
+use Rattle.node.specs.Cycle.{isRoomFor, goneFrom, cycledBy, nodeCycleOf}
 use Rattle.node_call.specs.Calls.{Call, frame, read, set, cycle, confirm, nodeAfter}
 use Rattle.node_laws.specs.Reachable.{IsCall, Reachable, new, after}
 use Rattle.node_laws.specs.Good.{RecordGood, Good}

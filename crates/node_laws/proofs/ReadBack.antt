@@ -55,8 +55,8 @@ use Rattle.call_confirm.specs.ConfirmCall.{withRoom, confirmAnswered, confirmCa
 use Rattle.round.specs.Records.{recordAt}
 use Rattle.round.specs.Round.{roundOf}
 use Rattle.node.specs.declared.Node.{Node}
-use Rattle.node_cycle.specs.Cycle.{goneFrom}
-use Rattle.node_confirm.specs.Confirm.{nodeConfirmOf, confirmedBytes}
+use Rattle.node.specs.Cycle.{goneFrom}
+use Rattle.node.specs.Confirm.{nodeConfirmOf, confirmedBytes}
 use Rattle.node_laws.specs.Good.{SentWithin, RoleGood, Good}
 use Rattle.node_laws.specs.Back.{Each, SyncBack, OpenBelow}
 use Rattle.node_laws.proofs.Cycles.{round-each}

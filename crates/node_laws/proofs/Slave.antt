@@ -32,16 +32,16 @@ use Rattle.frame_read.specs.declared.Read.{Read}
 use Rattle.frame_read.specs.declared.Read.the-variants.{Values, LengthNot8, NoSuchType}
 use Rattle.frame.specs.Types.{typeOf}
 use Rattle.frame_read.specs.Read.{wordOf, valuesOf, readOf}
-use Rattle.check_mode.specs.Check.{isGood}
+use Rattle.frame_check.specs.Check.{isGood}
 use Rattle.refusal.specs.Numbers.{numberOf}
 use Rattle.settings.specs.declared.domain_settings.Role.{Role}
 use Rattle.settings.specs.declared.domain_settings.Role.the-variants.{Absent, Slave, Master}
 use Rattle.admission.specs.declared.Needed.the-variants.{Slave as slave}
-use Rattle.frame_admission.specs.declared.FrameAdmission.{FrameAdmission}
-use Rattle.frame_admission.specs.declared.FrameAdmission.the-variants.{Admitted, Refused}
+use Rattle.admission.specs.declared.frames.FrameAdmission.{FrameAdmission}
+use Rattle.admission.specs.declared.frames.FrameAdmission.the-variants.{Admitted, Refused}
 use Rattle.admission.specs.Reading.{isGoodReading}
 use Rattle.admission.specs.Admission.{isIn, isFor}
-use Rattle.frame_admission.specs.FrameAdmission.{domainIn, readFor, frameAdmitted}
+use Rattle.admission.specs.FrameAdmission.{domainIn, readFor, frameAdmitted}
 use Rattle.domain.specs.declared.Domain.{Domain}
 use Rattle.domain.specs.declared.Pair.{Pair}
 use Rattle.domain.specs.declared.Pairing.{Pairing}

@@ -12,15 +12,15 @@ use Rattle.clock.specs.declared.reading.VirtualLocalTime.{VirtualLocalTime}
 use Rattle.frame.specs.declared.values.Fup.{Fup}
 use Rattle.frame.specs.declared.values.Frame.{Frame}
 use Rattle.frame.specs.declared.values.Frame.the-variants.{Sync as sync, Fup as fup}
-use Rattle.check_mode.specs.Check.{isGood}
+use Rattle.frame_check.specs.Check.{isGood}
 use Rattle.admission.specs.declared.Admission.{Admission}
 use Rattle.admission.specs.declared.Admission.the-variants.{Admitted, Refused}
 use Rattle.admission.specs.declared.Needed.the-variants.{Master}
 use Rattle.admission.specs.Reading.{isGoodReading}
 use Rattle.admission.specs.Admission.{admittedOf}
-use Rattle.frame_admission.specs.declared.FrameAdmission.{FrameAdmission}
-use Rattle.frame_admission.specs.declared.FrameAdmission.the-variants.{Admitted as admitted, Refused as refused}
-use Rattle.frame_admission.specs.FrameAdmission.{frameAdmitted}
+use Rattle.admission.specs.declared.frames.FrameAdmission.{FrameAdmission}
+use Rattle.admission.specs.declared.frames.FrameAdmission.the-variants.{Admitted as admitted, Refused as refused}
+use Rattle.admission.specs.FrameAdmission.{frameAdmitted}
 use Rattle.domain.specs.declared.Domain.{Domain}
 use Rattle.slave_pair.specs.declared.joining.Joined.{Joined}
 use Rattle.slave_pair.specs.declared.joining.Joined.the-variants.{With, Refused as not-joined}
@@ -45,11 +45,11 @@ use Rattle.call_set.specs.SetCall.{setCallAs}
 use Rattle.call_confirm.specs.ConfirmCall.{withRoom, confirmAnswered, confirmCallAs}
 use Rattle.round.specs.Records.{recordAt}
 use Rattle.round.specs.Round.{sentAfter, goes}
-use Rattle.turn.specs.Turn.{turnOf, nextAfter}
+use Rattle.round.specs.Turn.{turnOf, nextAfter}
 use Rattle.node.specs.declared.Node.{Node}
-use Rattle.node_frame.specs.Frame.{addressedBy}
-use Rattle.node_cycle.specs.declared.NodeCycle.{NodeCycle}
-use Rattle.node_cycle.specs.Cycle.{isRoomFor}
+use Rattle.node.specs.Frame.{addressedBy}
+use Rattle.node.specs.declared.cycles.NodeCycle.{NodeCycle}
+use Rattle.node.specs.Cycle.{isRoomFor}
 use Rattle.node_call.specs.Calls.{Call, frame, read, set, cycle, confirm, nodeAfter, nodeAfterAll}
 use Rattle.node_laws.specs.Good.{IsSet}
 

@@ -8,7 +8,7 @@ use Rattle.clock.specs.declared.reading.VirtualLocalTime.{VirtualLocalTime}
 use Rattle.master_rules.specs.Due.{isMaster}
 use Rattle.round.specs.Records.{recordAt}
 use Rattle.node.specs.declared.Node.{Node}
-use Rattle.node_frame.specs.Frame.{addressedBy}
+use Rattle.node.specs.Frame.{addressedBy}
 use Rattle.node_call.specs.Calls.{Call, frame, read, set, cycle, confirm, nodeAfter}
 
 -- ---- The call is not for the domain at place i; a main cycle is for masters.

@@ -9,7 +9,7 @@ use Rattle.clock.specs.declared.base.Held.{Held}
 use Rattle.clock.specs.declared.base.Held.the-variants.{Unset, Set}
 use Rattle.settings.specs.declared.domain_settings.Role.{Role}
 use Rattle.settings.specs.declared.domain_settings.Role.the-variants.{Absent, Slave, Master}
-use Rattle.ranges.specs.Ranges.{isGood}
+use Rattle.settings.specs.Ranges.{isGood}
 use Rattle.settings.specs.Domain.{heldOf, absentHeld}
 use Rattle.domain.specs.declared.Domain.{Domain}
 use Rattle.domain.specs.declared.Pairing.{Pairing}

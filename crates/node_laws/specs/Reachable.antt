@@ -4,7 +4,7 @@ use Prim.Native.Nat.{ℕ, _<_}
 use mathlib.Core.Path.{_≡_}
 use mathlib.Core.List.{List, [], _∷_}
 use lib.ListN.{length}
-use Rattle.node_settings.specs.declared.NodeSettings.{NodeSettings}
+use Rattle.settings.specs.declared.node_settings.NodeSettings.{NodeSettings}
 use Rattle.node.specs.declared.Node.{Node}
 use Rattle.node.specs.New.{newOf}
 use Rattle.node_call.specs.Calls.{Call, frame, read, set, cycle, confirm, nodeAfter}

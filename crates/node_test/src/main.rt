@@ -1,20 +1,20 @@
 // Calls to a node that no constructor gives (paper 01): its master waits for a confirmation as long as 32 bits
 // can say, was updated 255 times, and sends counter 15 next. So 13 shows, which no good C reaches, and the
 // counters pass their ends. A line each, as the trial has them; the trial's tests have every other case.
-use check_mode::CheckMode;
 use clock::VirtualLocalTime;
 use domain::Domain;
 use frame::DataIds;
+use frame_check::CheckMode;
 use node::Node;
 use node_call::Request;
 use node_call::call;
-use node_settings::NodeSettings;
-use pieces::write_out;
 use settings::DomainSettings;
+use settings::NodeSettings;
 use settings::Role;
 use settings::Security;
 use settings::UserBytes;
-use trial_line::put_trial_line;
+use text::pieces::write_out;
+use trial_step::line::put_trial_line;
 
 // The set; the read; SYNC 15. 13 at a FUP with OVS 4, 12 before it; then OVS 3 a nanosecond earlier. SYNC 0.
 fn main() {

@@ -13,7 +13,7 @@ use Rattle.frame_write.specs.Write.{bytesOf, isRoom, writtenIn}
 use Rattle.domain.specs.declared.Domain.{Domain}
 use Rattle.master_send.specs.declared.SendAnswer.{SendAnswer}
 use Rattle.master_send.specs.declared.SendAnswer.the-variants.{Sent, NotDue}
-use Rattle.turn.specs.Turn.{turnOf, nextAfter}
+use Rattle.round.specs.Turn.{turnOf, nextAfter}
 use Rattle.round.specs.declared.Round.{Round}
 use Rattle.round.specs.Records.{recordAt}
 

@@ -1,14 +1,18 @@
 // The main cycle's round (paper 01, "A master's domain"): sixteen turns over sixteen records, from the one
 // after that served last. Each due domain sends until as many have sent as a cycle may; frames are
 // written one after another at a running offset, and bytes beyond them stay.
+mod turns;
+
+use crate::turns::next_after;
+use crate::turns::turn;
 use clock::VirtualLocalTime;
 use domain::Domain;
 use frame::DataIds;
 use frame::Frame;
 use frame_write::write_frame;
 use master_send::SendAnswer;
-use turn::next_after;
-use turn::turn;
+pub use turns::next_after;
+pub use turns::turn;
 ghost use Prim.Native.Nat.{_≤_, _*_};
 ghost use Rattle.round.specs.Round.{PutAt, RoundIn};
 

@@ -3,18 +3,18 @@
 // of `bench_step` and `trial_step`.
 use bench_settings::bench_settings;
 use bench_step::bench_step;
-use lines::put_cut;
 use node::Node;
-use node_settings::NodeSettings;
-use pieces::Filled;
-use pieces::keep_rest;
-use pieces::next_item;
-use pieces::refill;
-use pieces::say_unread;
-use pieces::with_room;
-use pieces::write_out;
 use settings::DomainSettings;
-use trial_item::item_length;
+use settings::NodeSettings;
+use text::lines::put_cut;
+use text::pieces::Filled;
+use text::pieces::keep_rest;
+use text::pieces::next_item;
+use text::pieces::refill;
+use text::pieces::say_unread;
+use text::pieces::with_room;
+use text::pieces::write_out;
+use trial_step::item::item_length;
 use trial_step::trial_step;
 
 pub enum Program {

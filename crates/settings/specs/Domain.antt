@@ -1,6 +1,6 @@
 -- Paper 01, "Settings of a node": the settings of one domain. Assumes nothing.
 use lib.ListN.{replicate}
-use Rattle.check_mode.specs.declared.CheckMode.the-variants.{Validated}
+use Rattle.frame_check.specs.declared.CheckMode.the-variants.{Validated}
 use Rattle.settings.specs.declared.domain_settings.DomainSettings.{DomainSettings}
 use Rattle.settings.specs.declared.domain_settings.Role.{Role}
 use Rattle.settings.specs.declared.domain_settings.Role.the-variants.{Absent, Slave, Master}

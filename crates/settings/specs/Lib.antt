@@ -1,2 +1,4 @@
 -- The definitions of `settings`.
 pub mod Domain
+pub mod Ranges
+pub mod Node

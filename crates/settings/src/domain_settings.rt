@@ -1,6 +1,6 @@
 // The settings of one domain (paper 01, "Settings of a node"), for both roles.
-use check_mode::CheckMode;
 use frame::DataIds;
+use frame_check::CheckMode;
 ghost use mathlib.Core.Path.{_≡_};
 ghost use Rattle.settings.specs.Domain.{
   absentHeld,

@@ -1,8 +1,8 @@
 // What is held. A line is the settings by all their fields, first as given, then as held. No number
 // stands twice in those given, and none is 0 but the first of a mode or of a kind.
 use crate::line;
-use check_mode::CheckMode;
 use frame::DataIds;
+use frame_check::CheckMode;
 use settings::DomainSettings;
 use settings::Role;
 use settings::Security;

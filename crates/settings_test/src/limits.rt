@@ -1,7 +1,7 @@
 // The limits of the ranges.
 use crate::line;
-use node_settings::NodeSettings;
 use settings::DomainSettings;
+use settings::NodeSettings;
 
 // The limits as the library names them.
 pub fn limits() {

@@ -1,5 +1,5 @@
 // The parts of a line: words, numbers, bytes, and settings by their fields.
-use check_mode::CheckMode;
+use frame_check::CheckMode;
 use libc::STDOUT_FILENO;
 use settings::DomainSettings;
 use settings::Role;

@@ -8,7 +8,7 @@ use Rattle.promise.proofs.Laws.{either}
 use Rattle.clock.specs.declared.reading.VirtualLocalTime.{VirtualLocalTime}
 use Rattle.frame.specs.declared.values.Frame.{Frame}
 use Rattle.frame.specs.declared.values.Frame.the-variants.{Sync as sync, Fup as fup}
-use Rattle.check_mode.specs.Check.{isGood}
+use Rattle.frame_check.specs.Check.{isGood}
 use Rattle.domain.specs.declared.Domain.{Domain}
 use Rattle.slave_frame.specs.Step.{kindOf, frameOf}
 use Rattle.slave_sync.proofs.Laws.{Keeps, refusal-keeps-sync}

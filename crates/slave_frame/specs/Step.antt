@@ -6,7 +6,7 @@ use mathlib.Core.List.{List}
 use Rattle.clock.specs.declared.reading.VirtualLocalTime.{VirtualLocalTime}
 use Rattle.frame.specs.declared.values.Frame.{Frame}
 use Rattle.frame.specs.declared.values.Frame.the-variants.{Sync as sync, Fup as fup}
-use Rattle.check_mode.specs.Check.{isGood}
+use Rattle.frame_check.specs.Check.{isGood}
 use Rattle.refusal.specs.declared.Refusal.the-variants.{Check}
 use Rattle.domain.specs.declared.Domain.{Domain}
 use Rattle.slave_sync.specs.declared.FrameStep.{FrameStep}

@@ -20,7 +20,7 @@ pub fn signed(d: i64) {
     } else {
         word(b" ");
     }
-    io::print_decimal(STDOUT_FILENO, difference::magnitude(d));
+    io::print_decimal(STDOUT_FILENO, clock::magnitude(d));
 }
 
 pub fn reading(t: u64) {

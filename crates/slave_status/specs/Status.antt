@@ -6,6 +6,7 @@ use Rattle.clock.specs.declared.reading.VirtualLocalTime.{VirtualLocalTime}
 use Rattle.clock.specs.declared.base.Held.{Held}
 use Rattle.clock.specs.declared.base.Held.the-variants.{Unset, Set}
 use Rattle.clock.specs.Reading.{spanOf}
+use Rattle.domain.specs.declared.Domain.{Domain}
 use Rattle.domain.specs.declared.Leap.{Leap}
 use Rattle.domain.specs.declared.Leap.the-variants.{None, Future, Past}
 
@@ -27,3 +28,6 @@ leapBits Past = 0x20
 
 abbrev pub statusBits : (l : ℕ) → Held → Bool → Leap → VirtualLocalTime → ℕ
 statusBits l base sgw leap t = baseBits l base t + gatewayBit sgw + leapBits leap
+
+abbrev pub statusOf : Domain → VirtualLocalTime → ℕ
+statusOf d t = statusBits (d .settings .«loss_time») (d .base) (d .sgw) (d .leap) t

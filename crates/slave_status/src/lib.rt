@@ -1,10 +1,18 @@
-// The status of a slave's domain at a reading (paper 01, "A slave's domain"; bits as in document 000).
+// The status of a slave's record at a reading (paper 01, "A slave's domain"; bits as in document 000). Roles are
+// not looked at here: the node asks the right record.
 use clock::Held;
 use clock::VirtualLocalTime;
+use domain::Domain;
 use domain::Leap;
 ghost use Prim.Native.Nat.{_≤_};
 ghost use mathlib.Core.Path.{_≡_};
-ghost use Rattle.slave_status.specs.Status.{baseBits, gatewayBit, leapBits, statusBits};
+ghost use Rattle.slave_status.specs.Status.{
+  baseBits,
+  gatewayBit,
+  leapBits,
+  statusBits,
+  statusOf,
+};
 
 // Status bits.
 pub const TIMEOUT: u8 = 0x01;
@@ -16,6 +24,14 @@ pub const GLOBAL_TIME_BASE: u8 = 0x08;
 pub const TIMELEAP_FUTURE: u8 = 0x10;
 
 pub const TIMELEAP_PAST: u8 = 0x20;
+
+pub fn status_at(domain: Domain, t: VirtualLocalTime) -> u8
+    ensures { λ r. ⌜ r ≡ statusOf domain t ⌝ }
+{
+    let base = domain.base;
+    let leap = domain.leap;
+    status_of(domain.settings.loss_time, base, domain.sgw, leap, t)
+}
 
 // The status, from the base, the SGW and the leap that are stored.
 pub fn status_of(loss_time: u64, base: Held, sgw: bool, leap: Leap, t: VirtualLocalTime) -> u8

@@ -32,7 +32,7 @@ pub fn signed(d: i64) {
     if d < 0 {
         letter(b'-');
     }
-    io::print_decimal(STDOUT_FILENO, difference::magnitude(d));
+    io::print_decimal(STDOUT_FILENO, clock::magnitude(d));
 }
 
 pub fn reading(t: u64) {

@@ -10,7 +10,7 @@ use frame::Protection;
 use frame::Sync;
 use slave_frame::take_frame;
 use slave_fup::take_fup;
-use slave_show::status_at;
+use slave_status::status_at;
 use slave_sync::FrameStep;
 use slave_sync::take_sync;
 

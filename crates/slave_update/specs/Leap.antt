@@ -3,7 +3,7 @@ use Prim.Native.Nat.{ℕ}
 use mathlib.Core.Bool.{Bool, not, cond, _&&_}
 use lib.Dec.{eqb}
 use lib.IntN.{ℤ}
-use Rattle.difference.specs.Difference.{exceeds, minusExceeds}
+use Rattle.clock.specs.Difference.{exceeds, minusExceeds}
 use Rattle.domain.specs.declared.Leap.{Leap}
 use Rattle.domain.specs.declared.Leap.the-variants.{None, Future, Past}
 

@@ -4,7 +4,7 @@ use lib.IntN.{ℤ}
 use Rattle.clock.specs.declared.base.TimeBase.{TimeBase}
 use Rattle.clock.specs.declared.base.Held.{Held}
 use Rattle.clock.specs.declared.base.Held.the-variants.{Unset, Set}
-use Rattle.difference.specs.Difference.{differenceOf}
+use Rattle.clock.specs.Difference.{differenceOf}
 use Rattle.clock.specs.Base.{baseOf, timeAt}
 use Rattle.frame.specs.declared.values.Fup.{Fup}
 use Rattle.domain.specs.declared.Pair.{Pair}

@@ -22,7 +22,7 @@ fn is_future(threshold: u64, d: i64) -> bool
     if threshold == 0 {
         false
     } else {
-        difference::exceeds(d, threshold)
+        clock::exceeds(d, threshold)
     }
 }
 
@@ -32,6 +32,6 @@ fn is_past(threshold: u64, d: i64) -> bool
     if threshold == 0 {
         false
     } else {
-        difference::minus_exceeds(d, threshold)
+        clock::minus_exceeds(d, threshold)
     }
 }

@@ -36,7 +36,7 @@ pub fn update_by(future: u64, past: u64, old: Held, new: TimeBase) -> Update
         Held::Set(base) => {
             let time = new.time;
             let at = new.at;
-            let d = difference::minus(time, base.time_at(at));
+            let d = clock::minus(time, base.time_at(at));
             Update {
                 answer: FrameAnswer::Updated(d),
                 leap: leap_of(future, past, d),

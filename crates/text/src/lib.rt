@@ -1,5 +1,9 @@
 // Text in a lent buffer. Each function writes from a place on and answers the place after what it
 // wrote. Where the buffer ends, nothing more is written and the place stays.
+pub mod fields;
+pub mod lines;
+pub mod pieces;
+
 ghost use Prim.Native.Nat.{_<_};
 ghost use mathlib.Core.Path.{_≡_};
 ghost use mathlib.Core.List.{[], _∷_};

@@ -12,7 +12,7 @@ use Rattle.node.specs.declared.Node.{Node}
 use Rattle.bench_record.specs.declared.Asked.{Asked}
 use Rattle.bench_record.specs.declared.Asked.the-variants.{Call, Bad}
 use Rattle.bench_record.specs.Record.{askedBy}
-use Rattle.trial_item.specs.Item.{isSettings}
+use Rattle.trial_step.specs.Item.{isSettings}
 use Rattle.trial_step.specs.declared.TrialStep.{TrialStep}
 use Rattle.trial_step.specs.Step.{CalledAs, SteppedAs, TrialStepped}
 

@@ -5,12 +5,12 @@ use mathlib.Core.Bool.{Bool, true, false, cond}
 use mathlib.Core.List.{List, _++_}
 use lib.Dec.{ltb}
 use lib.ListN.{getD, take, replicate}
-use Rattle.fields.specs.Fields.{pairAt, bytesAt}
+use Rattle.text.specs.Fields.{pairAt, bytesAt}
 use Rattle.text.specs.Text.{Puts}
-use Rattle.lines.specs.Lines.{newline, answerText, badText}
+use Rattle.text.specs.Lines.{newline, answerText, badText}
 use Rattle.refusal.specs.Numbers.{numberOf}
-use Rattle.node_settings.specs.declared.Verdict.{Verdict}
-use Rattle.node_settings.specs.declared.Verdict.the-variants.{Good, Refused}
+use Rattle.settings.specs.declared.node_settings.Verdict.{Verdict}
+use Rattle.settings.specs.declared.node_settings.Verdict.the-variants.{Good, Refused}
 use Rattle.node.specs.declared.Node.{Node}
 use Rattle.node.specs.declared.NewNode.{NewNode}
 use Rattle.node.specs.New.{newOf}
@@ -21,9 +21,9 @@ use Rattle.node_call.specs.Called.{callOf, answerOf, bytesAfter}
 use Rattle.bench_record.specs.declared.Asked.{Asked}
 use Rattle.bench_record.specs.declared.Asked.the-variants as asked
 use Rattle.bench_record.specs.Record.{askedBy}
-use Rattle.trial_line.specs.TrialLine.{trialLine}
-use Rattle.trial_item.specs.Item.{isSettings}
-use Rattle.trial_settings.specs.Block.{settingsOf}
+use Rattle.trial_step.specs.TrialLine.{trialLine}
+use Rattle.trial_step.specs.Item.{isSettings}
+use Rattle.trial_step.specs.Block.{settingsOf}
 use Rattle.trial_step.specs.declared.TrialStep.{TrialStep}
 
 -- ---- Kind 1: the domain byte is the frame's length, its bytes are the payload's and beyond eight zeros.

@@ -1,18 +1,22 @@
 // An item of the trial: a settings block or a call record, and its line.
+pub mod block;
+pub mod item;
+pub mod line;
+
+use crate::block::settings_of;
+use crate::item::is_settings;
+use crate::line::put_trial_line;
 use bench_record::Asked;
 use bench_record::asked_by;
-use fields::byte_at;
-use fields::pair_at;
-use lines::put_answer;
-use lines::put_bad;
 use node::Node;
 use node_call::Request;
 use node_call::call;
-use node_settings::Verdict;
+use settings::Verdict;
+use text::fields::byte_at;
+use text::fields::pair_at;
+use text::lines::put_answer;
+use text::lines::put_bad;
 use text::put_byte;
-use trial_item::is_settings;
-use trial_line::put_trial_line;
-use trial_settings::settings_of;
 ghost use mathlib.Core.Path.{_≡_};
 ghost use Rattle.trial_step.specs.Step.{
   atMost512,

@@ -11,7 +11,7 @@ use Rattle.node.specs.declared.Node.{Node}
 use Rattle.node_call.specs.declared.Request.{Request}
 use Rattle.node_call.specs.declared.Called.{Called}
 use Rattle.node_call.specs.Called.{CalledIn}
-use Rattle.bench_line.specs.BenchLine.{benchLine}
+use Rattle.bench_step.specs.BenchLine.{benchLine}
 use Rattle.bench_step.specs.Step.{lent, BenchCalled}
 use Rattle.bench_step.proofs.answer.Statement.{statement}
 use Rattle.bench_step.proofs.answer.Tie as tie

@@ -6,7 +6,7 @@ use mathlib.Core.List.{List}
 use denote.Ref.{now}
 use borrow.Author.Needs.{needs}
 use Rattle.text.specs.Text.{Puts}
-use Rattle.lines.specs.Lines.{badText}
+use Rattle.text.specs.Lines.{badText}
 use Rattle.node.specs.declared.Node.{Node}
 use Rattle.node_call.specs.declared.Request.{Request}
 use Rattle.bench_record.specs.declared.Asked.the-variants.{Call, Bad}

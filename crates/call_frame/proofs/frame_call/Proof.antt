@@ -3,7 +3,7 @@
 -- Assumes nothing.
 use mathlib.Core.Path.{_≡_, sym, ap, _∙_}
 use denote.Ref.{now}
-use Rattle.frame_admission.specs.declared.FrameAdmission.{FrameAdmission}
+use Rattle.admission.specs.declared.frames.FrameAdmission.{FrameAdmission}
 use Rattle.call_frame.specs.FrameCall.{frameCallAs, frameCallOf}
 use borrow.Author.Needs.{needs}
 use Rattle.call_frame.proofs.frame_call.Statement.{statement}

@@ -6,10 +6,10 @@ use Prim.Native.Nat.{ℕ}
 use borrow.Author.Needs.{needs}
 use Rattle.clock.specs.declared.reading.VirtualLocalTime.{VirtualLocalTime}
 use Rattle.node.specs.declared.Node.{Node}
-use Rattle.node_cycle.specs.declared.NodeCycle.{NodeCycle}
-use Rattle.node_cycle.specs.Cycle.{cycleBytes, CycledIn}
-use Rattle.node_confirm.specs.declared.NodeConfirm.{NodeConfirm}
-use Rattle.node_confirm.specs.Confirm.{confirmedBytes, NodeConfirmedIn}
+use Rattle.node.specs.declared.cycles.NodeCycle.{NodeCycle}
+use Rattle.node.specs.Cycle.{cycleBytes, CycledIn}
+use Rattle.node.specs.declared.confirms.NodeConfirm.{NodeConfirm}
+use Rattle.node.specs.Confirm.{confirmedBytes, NodeConfirmedIn}
 use Rattle.node_call.specs.declared.Request.{Request}
 use Rattle.node_call.specs.declared.Request.the-variants as asked
 use Rattle.node_call.specs.declared.CallAnswer.the-variants.{Frame, Read, Set, Cycle, Confirm}

@@ -11,7 +11,7 @@ use Rattle.node.specs.declared.Node.{Node}
 use Rattle.node_call.specs.declared.Request.{Request}
 use Rattle.node_call.specs.declared.Called.{Called}
 use Rattle.node_call.specs.Called.{CalledIn}
-use Rattle.trial_line.specs.TrialLine.{trialLine}
+use Rattle.trial_step.specs.TrialLine.{trialLine}
 use Rattle.trial_step.specs.Step.{TrialCalled}
 use Rattle.trial_step.proofs.answer.Statement.{statement}
 use Rattle.trial_step.proofs.answer.Tie as tie

@@ -9,8 +9,8 @@ use lib.ListN.{length, getD, set, replicate}
 use lib.Seq.{append-snoc, set-at}
 use denote.Ref.{now}
 use borrow.Author.Needs.{needs}
-use Rattle.fields.specs.Fields.{bytesAt}
-use Rattle.fields.proofs.Laws.{bytes-at-suc}
+use Rattle.text.specs.Fields.{bytesAt}
+use Rattle.text.proofs.fields.Laws.{bytes-at-suc}
 use Rattle.trial_step.proofs.frame_of.Statement.{statement}
 use Rattle.trial_step.proofs.frame_of.Tie as tie
 

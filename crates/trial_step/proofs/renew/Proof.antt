@@ -7,7 +7,7 @@ use mathlib.Core.List.{List, _++_}
 use borrow.Author.Needs.{needs}
 use Rattle.text.specs.Text.{Puts}
 use Rattle.text.proofs.Laws.{then, named}
-use Rattle.lines.specs.Lines.{newline, answerText}
+use Rattle.text.specs.Lines.{newline, answerText}
 use Rattle.node.specs.declared.NewNode.{NewNode}
 use Rattle.node.specs.New.{newOf}
 use Rattle.trial_step.specs.Step.{verdictNumber, renewedBy, Renewed}

@@ -7,12 +7,12 @@ use mathlib.Core.List.{List}
 use denote.Ref.{now}
 use borrow.Author.Needs.{needs}
 use Rattle.text.specs.Text.{Puts}
-use Rattle.lines.specs.Lines.{badText}
+use Rattle.text.specs.Lines.{badText}
 use Rattle.node.specs.declared.Node.{Node}
 use Rattle.node_call.specs.declared.Request.{Request}
 use Rattle.bench_record.specs.declared.Asked.the-variants.{Call, Bad}
 use Rattle.bench_record.specs.Record.{askedBy}
-use Rattle.trial_item.specs.Item.{isSettings}
+use Rattle.trial_step.specs.Item.{isSettings}
 use Rattle.trial_step.specs.declared.TrialStep.{TrialStep}
 use Rattle.trial_step.specs.Step.{Renewed, TrialAsked, CalledAs, SteppedAs, TrialStepped}
 use Rattle.trial_step.proofs.trial_step.Statement.{statement}

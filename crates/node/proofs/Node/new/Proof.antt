@@ -4,7 +4,7 @@ use mathlib.Core.Path.{_≡_, sym, ap, _∙_}
 use lib.ListN.{replicate}
 use borrow.Author.Needs.{needs}
 use Rattle.settings.specs.declared.domain_settings.DomainSettings.{DomainSettings}
-use Rattle.node_settings.specs.declared.Verdict.{Verdict}
+use Rattle.settings.specs.declared.node_settings.Verdict.{Verdict}
 use Rattle.node.specs.declared.Node.{Node}
 use Rattle.node.specs.declared.NewNode.{NewNode}
 use Rattle.node.specs.New.{freshNode, newAs, newOf}

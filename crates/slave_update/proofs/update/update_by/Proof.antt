@@ -5,7 +5,7 @@ use mathlib.Core.Path.{_≡_, ap, _∙_}
 use mir.Syntax.{w64}
 use mir.Val.{toZ, ofZ}
 use mir.ValLaws.{toZ-ofZ}
-use Rattle.difference.specs.Difference.{differenceOf}
+use Rattle.clock.specs.Difference.{differenceOf}
 use Rattle.slave_update.specs.Update.{movedBy}
 use borrow.Author.Needs.{needs}
 use Rattle.slave_update.proofs.update.update_by.Statement.{statement}

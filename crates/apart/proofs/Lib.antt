@@ -1,3 +1,0 @@
--- The laws of `apart`, each after what it stands on.
-pub mod Compared
-pub mod Only

@@ -1,2 +1,0 @@
--- The definitions of `apart`.
-pub mod Apart

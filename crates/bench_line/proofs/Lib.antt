@@ -1,4 +1,0 @@
--- The laws of `bench_line`, each after what it stands on.
-pub mod Frames
-pub mod Only
-pub mod Fits

@@ -1,2 +1,0 @@
--- The definitions of `bench_line`.
-pub mod BenchLine

@@ -1,2 +1,0 @@
--- The laws of `check_mode`.
-pub mod Only

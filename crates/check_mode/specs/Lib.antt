@@ -1,2 +1,0 @@
--- The definitions of `check_mode`.
-pub mod Check

@@ -1,0 +1,3 @@
+-- The laws of `clock::apart`, each after what it stands on.
+pub mod Compared
+pub mod Only

@@ -1,4 +1,0 @@
--- The laws of `difference`, each after what it stands on.
-pub mod Laws
-pub mod Only
-mod Signed

@@ -1,2 +1,0 @@
--- The definitions of `difference`.
-pub mod Difference

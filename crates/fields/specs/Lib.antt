@@ -1,2 +1,0 @@
--- The definitions of `fields`.
-pub mod Fields

@@ -1,2 +1,0 @@
--- The laws of `frame_admission`.
-pub mod Only

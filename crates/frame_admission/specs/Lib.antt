@@ -1,2 +1,0 @@
--- The definitions of `frame_admission`.
-pub mod FrameAdmission

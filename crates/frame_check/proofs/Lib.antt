@@ -1,0 +1,2 @@
+-- The laws of `frame_check`.
+pub mod Only

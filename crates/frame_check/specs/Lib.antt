@@ -1,0 +1,2 @@
+-- The definitions of `frame_check`.
+pub mod Check

@@ -1,3 +1,0 @@
--- The laws of `lines`, each after what it stands on.
-pub mod Only
-pub mod Fits

@@ -1,0 +1,2 @@
+-- The laws of `node::confirms`.
+pub mod Only

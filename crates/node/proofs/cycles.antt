@@ -1,0 +1,2 @@
+-- The laws of `node::cycles`.
+pub mod Only

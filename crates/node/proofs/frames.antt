@@ -1,0 +1,2 @@
+-- The laws of `node::frames`.
+pub mod Only

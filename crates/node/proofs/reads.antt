@@ -1,0 +1,2 @@
+-- The laws of `node::reads`.
+pub mod Only

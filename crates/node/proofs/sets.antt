@@ -1,0 +1,2 @@
+-- The laws of `node::sets`.
+pub mod Only

@@ -1,0 +1,44 @@
+// A node's frame call (paper 01, "A slave's domain").
+use crate::Node;
+use call_frame::frame_call;
+use clock::VirtualLocalTime;
+use slave_update::FrameAnswer;
+ghost use Prim.Native.Nat.{_<_};
+ghost use mathlib.Core.Path.{_≡_};
+ghost use Rattle.node.specs.Frame.{addressedBy, nodeFrameOf};
+
+pub struct NodeFrame {
+    pub answer: FrameAnswer,
+    pub node: Node,
+}
+
+// A frame of any length at t: 1, 2, 3, 4, 5; then 6, or 7, 8, 9.
+pub fn on_frame(node: Node, t: VirtualLocalTime, bytes: &[u8]) -> NodeFrame
+    ensures { λ r. ⌜ r ≡ nodeFrameOf node t (now (bytes .entry)) ⌝ }
+{
+    let at = addressed(bytes);
+    let kept = node.kept;
+    let record = node.domains[at];
+    let call = frame_call(record, kept, t, bytes);
+    let answer = call.answer;
+    let after = call.domain;
+    let then = call.kept;
+    let mut after_node = node;
+    after_node.domains[at] = after;
+    after_node.kept = then;
+    NodeFrame {
+        answer,
+        node: after_node,
+    }
+}
+
+// The domain in byte 2: 0 where there is no such byte, which 2 refuses.
+fn addressed(bytes: &[u8]) -> usize
+    ensures { λ r. ⌜ r ≡ addressedBy (now (bytes .entry)) ⌝ }
+{
+    if bytes.len() < 3 {
+        0
+    } else {
+        (bytes[2] / 16 % 16) as usize
+    }
+}

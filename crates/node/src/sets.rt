@@ -1,0 +1,38 @@
+// A node's set call (paper 01, "A master's domain").
+use crate::Node;
+use call_set::set_call;
+use clock::VirtualLocalTime;
+use master_set::SetAnswer;
+ghost use mathlib.Core.Path.{_≡_};
+ghost use Rattle.node.specs.Set.{nodeSetOf};
+
+pub struct NodeSet {
+    pub answer: SetAnswer,
+    pub node: Node,
+}
+
+// The base of a domain holds the given time at t: 1, 4, 9.
+pub fn on_set(
+    node: Node,
+    domain: u8,
+    t: VirtualLocalTime,
+    seconds: u32,
+    nanoseconds: u32,
+) -> NodeSet
+    ensures { λ r. ⌜ r ≡ nodeSetOf node domain t seconds nanoseconds ⌝ }
+{
+    let at = (domain % 16) as usize;
+    let kept = node.kept;
+    let record = node.domains[at];
+    let call = set_call(record, kept, domain, t, seconds, nanoseconds);
+    let answer = call.answer;
+    let after = call.domain;
+    let then = call.kept;
+    let mut after_node = node;
+    after_node.domains[at] = after;
+    after_node.kept = then;
+    NodeSet {
+        answer,
+        node: after_node,
+    }
+}

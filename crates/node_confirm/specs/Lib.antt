@@ -1,2 +1,0 @@
--- The definitions of `node_confirm`.
-pub mod Confirm

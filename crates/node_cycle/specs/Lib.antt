@@ -1,2 +1,0 @@
--- The definitions of `node_cycle`.
-pub mod Cycle

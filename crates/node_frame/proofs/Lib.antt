@@ -1,2 +1,0 @@
--- The laws of `node_frame`.
-pub mod Only

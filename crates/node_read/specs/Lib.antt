@@ -1,2 +1,0 @@
--- The definitions of `node_read`.
-pub mod Read

@@ -1,2 +1,0 @@
--- The definitions of `node_set`.
-pub mod Set

@@ -1,2 +1,0 @@
--- The laws of `pieces`.
-pub mod Only

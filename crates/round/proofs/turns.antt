@@ -1,0 +1,2 @@
+-- The laws of `round::turns`.
+pub mod Only

@@ -1,0 +1,2 @@
+-- The laws of `settings::node_settings`.
+pub mod Only

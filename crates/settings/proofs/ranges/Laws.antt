@@ -1,0 +1,69 @@
+-- Laws of the ranges. No contract cites this file.
+--   held-good         what is held of good settings is good
+--   slave-range       what good settings of a slave are, rule by rule
+--   master-range      what good settings of a master are, rule by rule
+-- Assumes nothing.
+use Prim.Native.Nat.{_≤_, _<_}
+use mathlib.Core.Path.{_≡_, refl}
+use mathlib.Core.Bool.{Bool, true, false, _&&_}
+use borrow.Author.Tests.{leb-true, ltb-true}
+use Rattle.settings.specs.declared.domain_settings.DomainSettings.{DomainSettings}
+use Rattle.settings.specs.declared.domain_settings.Role.{Role}
+use Rattle.settings.specs.declared.domain_settings.Role.the-variants.{Absent, Slave, Master}
+use Rattle.settings.specs.Domain.{heldAs, heldOf}
+use Rattle.settings.specs.Ranges.{isGood, slaveGood, masterGood, isGoodAs}
+
+good-as : (r : Role) (s : DomainSettings) → isGood (heldAs r s) ≡ isGoodAs r s
+good-as Absent s = refl
+good-as Slave s = refl
+good-as Master s = refl
+
+pub held-good : (s : DomainSettings) → isGood (heldOf s) ≡ isGood s
+held-good s = good-as (s .role) s
+
+-- ---- what the conjunctions say
+
+both : (a b : Bool) → (a && b) ≡ true → (a ≡ true) × (b ≡ true)
+both true b e = (refl, e)
+both false b e = (e, cc)
+
+pub record SlaveRange (s : DomainSettings) : Type 0 where
+  pub jump : (1 ≤ s .«jump_width») × (s .«jump_width» ≤ 15)
+  pub follow : (1 ≤ s .«follow_up_time») × (s .«follow_up_time» ≤ 10000000000)
+  pub loss : (s .«follow_up_time» < s .«loss_time») × (s .«loss_time» ≤ 1000000000000)
+  pub future : s .«future_threshold» ≤ 1000000000000
+  pub past : s .«past_threshold» ≤ 1000000000000
+
+pub record MasterRange (s : DomainSettings) : Type 0 where
+  pub period : (1000000 ≤ s .period) × (s .period ≤ 1000000000000)
+  pub confirmation : (1 ≤ s .«confirmation_time») × (s .«confirmation_time» ≤ 3000000000)
+  pub below : s .«confirmation_time» < s .period
+
+pub slave-range : (s : DomainSettings) → slaveGood s ≡ true → SlaveRange s
+slave-range s e =
+    let p₆ = both _ _ e in
+    let p₅ = both _ _ (p₆ .0) in
+    let p₄ = both _ _ (p₅ .0) in
+    let p₃ = both _ _ (p₄ .0) in
+    let p₂ = both _ _ (p₃ .0) in
+    let j = both _ _ (p₂ .0) in
+    let f = both _ _ (p₂ .1) in
+    record {
+      jump = (leb-true _ _ (j .0), leb-true _ _ (j .1));
+      follow = (leb-true _ _ (f .0), leb-true _ _ (f .1));
+      loss = (ltb-true _ _ (p₃ .1), leb-true _ _ (p₄ .1));
+      future = leb-true _ _ (p₅ .1);
+      past = leb-true _ _ (p₆ .1);
+    }
+
+pub master-range : (s : DomainSettings) → masterGood s ≡ true → MasterRange s
+master-range s e =
+    let p₃ = both _ _ e in
+    let p₂ = both _ _ (p₃ .0) in
+    let p = both _ _ (p₂ .0) in
+    let c = both _ _ (p₂ .1) in
+    record {
+      period = (leb-true _ _ (p .0), leb-true _ _ (p .1));
+      confirmation = (leb-true _ _ (c .0), leb-true _ _ (c .1));
+      below = ltb-true _ _ (p₃ .1);
+    }

@@ -1,2 +1,0 @@
--- The laws of `slave_show`.
-pub mod Only

@@ -1,2 +1,0 @@
--- The definitions of `slave_show`.
-pub mod Status

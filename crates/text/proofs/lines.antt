@@ -1,0 +1,3 @@
+-- The laws of `text::lines`, each after what it stands on.
+pub mod Only
+pub mod Fits

@@ -1,0 +1,2 @@
+-- The laws of `text::pieces`.
+pub mod Only

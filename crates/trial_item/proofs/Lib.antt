@@ -1,2 +1,0 @@
--- The laws of `trial_item`.
-pub mod Only

@@ -1,4 +1,0 @@
--- The laws of `trial_line`, each after what it stands on.
-pub mod Buffer
-pub mod Only
-pub mod Fits

@@ -1,2 +1,0 @@
--- The definitions of `trial_settings`.
-pub mod Block

@@ -1,0 +1,90 @@
+-- `trial_step::block::slave` meets its contract: each arm knows the mode, and the callees ensure the fields.
+-- Assumes nothing.
+use borrow.Author.Needs.{needs}
+use Rattle.trial_step.proofs.block.slave.Statement.{statement}
+use Rattle.trial_step.proofs.block.slave.Tie as tie
+
+enum-told : tie.Need-enum-told
+enum-told c = search needs
+
+no-settings-requires : tie.Need-no-settings-requires
+no-settings-requires c κs = search needs
+
+enum-known-mode : tie.Need-enum-known-mode
+enum-known-mode c = search needs
+
+add-long-at : tie.Need-add-long-at
+add-long-at c = search needs
+
+long-at-requires : tie.Need-long-at-requires
+long-at-requires c κs = search needs
+
+add-long-at-2 : tie.Need-add-long-at-2
+add-long-at-2 c = search needs
+
+long-at-requires-2 : tie.Need-long-at-requires-2
+long-at-requires-2 c κs = search needs
+
+add-long-at-3 : tie.Need-add-long-at-3
+add-long-at-3 c = search needs
+
+long-at-requires-3 : tie.Need-long-at-requires-3
+long-at-requires-3 c κs = search needs
+
+add-long-at-4 : tie.Need-add-long-at-4
+add-long-at-4 c = search needs
+
+long-at-requires-4 : tie.Need-long-at-requires-4
+long-at-requires-4 c κs = search needs
+
+add-ids-at : tie.Need-add-ids-at
+add-ids-at c = search needs
+
+ids-at-requires : tie.Need-ids-at-requires
+ids-at-requires c κs = search needs
+
+add-byte-at : tie.Need-add-byte-at
+add-byte-at c = search needs
+
+byte-at-requires : tie.Need-byte-at-requires
+byte-at-requires c κs = search needs
+
+returns : tie.Need-returns
+returns c = search needs
+
+returns-2 : tie.Need-returns-2
+returns-2 c =
+    let long4 = c .before .before in
+    let long2 = long4 .before .before in
+    let known = long2 .before .before in
+    rw (
+      long2 .before .long-at .ensures,
+      long2 .long-at2 .ensures,
+      long4 .before .long-at3 .ensures,
+      long4 .long-at4 .ensures,
+      c .before .ids-at .ensures,
+      c .byte-at .ensures,
+      known .before .mode .given .1,
+    )
+
+pub slave-spec : {M : Type 1} → statement M
+slave-spec =
+    tie.close
+    (tie.spec
+    enum-told
+    no-settings-requires
+    enum-known-mode
+    add-long-at
+    long-at-requires
+    add-long-at-2
+    long-at-requires-2
+    add-long-at-3
+    long-at-requires-3
+    add-long-at-4
+    long-at-requires-4
+    add-ids-at
+    ids-at-requires
+    add-byte-at
+    byte-at-requires
+    returns
+    returns-2)

@@ -1,0 +1,2 @@
+-- The laws of `trial_step::item`.
+pub mod Only

@@ -1,0 +1,16 @@
+-- No two results satisfy the promise of F, as `F-only` for each public function F. No contract cites
+-- this file.
+-- Assumes nothing.
+use Prim.Native.Nat.{ℕ}
+use mathlib.Core.Path.{_≡_}
+use mathlib.Core.Bool.{Bool}
+use mathlib.Core.List.{List}
+use Rattle.promise.specs.Only.{OnlyOne}
+use Rattle.promise.proofs.Laws.{equation-only}
+use Rattle.trial_step.specs.Item.{isSettings, itemLength}
+
+pub is-settings-only : (item : List ℕ) → OnlyOne (λ (r : Bool). r ≡ isSettings item)
+is-settings-only item = equation-only _
+
+pub item-length-only : (bytes : List ℕ) → OnlyOne (λ (r : ℕ). r ≡ itemLength bytes)
+item-length-only bytes = equation-only _

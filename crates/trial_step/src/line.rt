@@ -1,0 +1,104 @@
+// The trial's line of an answer. A lent buffer is shown whole, also where the call is refused.
+use answers::CycleAnswer;
+use answers::ReadAnswer;
+use node_call::CallAnswer;
+use node_call::call_number;
+use settings::UserBytes;
+use text::lines::put_answer;
+use text::lines::put_time;
+use text::put_byte;
+use text::put_decimal;
+use text::put_hex;
+use text::put_hex_byte;
+ghost use mathlib.Core.Path.{_≡_};
+ghost use Rattle.text.specs.Text.{Puts};
+ghost use Rattle.trial_step.specs.TrialLine.{
+  userText,
+  readText,
+  countOf,
+  bufferText,
+  valuesText,
+  trialLine,
+};
+
+// `buffer` is the lent buffer after the call.
+pub fn put_trial_line(
+    out: &mut [u8],
+    at: usize,
+    item: u64,
+    answer: CallAnswer,
+    buffer: &[u8],
+) -> usize
+    ensures { λ r. ⌜ Puts (trialLine item answer (now (buffer .entry))) at (now (out .entry)) r (now (out .exit)) ⌝ }
+{
+    let values = put_answer(out, at, item, call_number(answer));
+    let end = put_values(out, values, answer, buffer);
+    put_byte(out, end, b'\n')
+}
+
+// What comes after the number.
+fn put_values(out: &mut [u8], at: usize, answer: CallAnswer, buffer: &[u8]) -> usize
+    ensures { λ r. ⌜ Puts (valuesText answer (now (buffer .entry))) at (now (out .entry)) r (now (out .exit)) ⌝ }
+{
+    match answer {
+        CallAnswer::Frame(_) => at,
+        CallAnswer::Read(read) => put_read(out, at, read),
+        CallAnswer::Set(_) => at,
+        CallAnswer::Cycle(cycle) => {
+            let digits = put_byte(out, at, b' ');
+            let then = put_decimal(out, digits, count_of(cycle));
+            put_buffer(out, then, buffer)
+        }
+        CallAnswer::Confirm(_) => put_buffer(out, at, buffer),
+    }
+}
+
+// The time, the status, the user bytes and the update counter.
+fn put_read(out: &mut [u8], at: usize, read: ReadAnswer) -> usize
+    ensures { λ r. ⌜ Puts (readText read) at (now (out .entry)) r (now (out .exit)) ⌝ }
+{
+    match read {
+        ReadAnswer::Refused(_) => at,
+        ReadAnswer::Time(shown) => {
+            let time = shown.time;
+            let user = shown.user;
+            let seconds = put_byte(out, at, b' ');
+            let blank = put_time(out, seconds, time);
+            let status = put_byte(out, blank, b' ');
+            let second = put_hex_byte(out, status, shown.status);
+            let bytes = put_byte(out, second, b' ');
+            let third = put_user(out, bytes, user);
+            let updates = put_byte(out, third, b' ');
+            put_decimal(out, updates, shown.updates as u64)
+        }
+    }
+}
+
+fn put_user(out: &mut [u8], at: usize, user: UserBytes) -> usize
+    ensures { λ r. ⌜ Puts (userText user) at (now (out .entry)) r (now (out .exit)) ⌝ }
+{
+    let one = put_hex_byte(out, at, user.0);
+    let two = put_hex_byte(out, one, user.1);
+    put_hex_byte(out, two, user.2)
+}
+
+// A refused main cycle sent none.
+fn count_of(cycle: CycleAnswer) -> u64
+    ensures { λ r. ⌜ r ≡ countOf cycle ⌝ }
+{
+    match cycle {
+        CycleAnswer::Sent(count) => count as u64,
+        CycleAnswer::Refused(_) => 0,
+    }
+}
+
+// An empty buffer is a dash.
+fn put_buffer(out: &mut [u8], at: usize, buffer: &[u8]) -> usize
+    ensures { λ r. ⌜ Puts (bufferText (now (buffer .entry))) at (now (out .entry)) r (now (out .exit)) ⌝ }
+{
+    let then = put_byte(out, at, b' ');
+    if buffer.len() == 0 {
+        return put_byte(out, then, b'-');
+    }
+    put_hex(out, then, buffer)
+}

@@ -1,2 +1,0 @@
--- The laws of `turn`.
-pub mod Only

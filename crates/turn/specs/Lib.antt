@@ -1,2 +1,0 @@
--- The definitions of `turn`.
-pub mod Turn
