@@ -11,10 +11,15 @@ use Rattle.settings.specs.declared.domain_settings.Role.{Role}
 use Rattle.admission.specs.declared.Needed.{Needed}
 use Rattle.admission.specs.declared.Admission.{Admission}
 use Rattle.admission.specs.Reading.{isGoodReading}
+use Rattle.admission.specs.Kept.{keptAfter}
 use Rattle.admission.specs.Admission.{isIn, admittedOf}
 
 pub is-good-reading-only : (kept t : VirtualLocalTime) → OnlyOne (λ (r : Bool). r ≡ isGoodReading kept t)
 is-good-reading-only kept t = equation-only _
+
+pub kept-after-only :
+    (number : ℕ) (kept t : VirtualLocalTime) → OnlyOne (λ (r : VirtualLocalTime). r ≡ keptAfter number kept t)
+kept-after-only number kept t = equation-only _
 
 pub admit-only :
     (kept t : VirtualLocalTime) (own : ℕ) (role : Role) (asked : ℕ) (needed : Needed) →

@@ -4,7 +4,7 @@ use mathlib.Core.Bool.{cond}
 use mathlib.Core.List.{List}
 use Rattle.clock.specs.declared.reading.VirtualLocalTime.{VirtualLocalTime}
 use Rattle.frame.specs.declared.values.Frame.{Frame}
-use Rattle.frame.specs.declared.values.Frame.the-variants.{Sync as sync, Fup as fup}
+use Rattle.frame.specs.Values.{domainIn}
 use Rattle.frame_read.specs.declared.Read.{Read}
 use Rattle.frame_read.specs.declared.Read.the-variants.{Values, LengthNot8, NoSuchType}
 use Rattle.frame_read.specs.Read.{readOf}
@@ -17,10 +17,6 @@ use Rattle.admission.specs.declared.frames.FrameAdmission.{FrameAdmissio
 use Rattle.admission.specs.declared.frames.FrameAdmission.the-variants.{Admitted as admitted, Refused as refused}
 
 -- ---- frame: 1, 2, 3, 4
-abbrev pub domainIn : Frame → ℕ
-domainIn (sync s) = s .domain
-domainIn (fup f) = f .domain
-
 abbrev pub valuesFor : (own : ℕ) → Role → Frame → FrameAdmission
 valuesFor own role values = cond (isFor own role (domainIn values) slave) (admitted values) (refused Domain)
 

@@ -10,7 +10,7 @@ use frame_read::read_frame;
 use refusal::Refusal;
 use settings::Role;
 ghost use mathlib.Core.Path.{_≡_};
-ghost use Rattle.admission.specs.FrameAdmission.{domainIn, valuesFor, frameAdmitted};
+ghost use Rattle.admission.specs.FrameAdmission.{valuesFor, frameAdmitted};
 
 // A frame's values, or the number by which the frame is refused.
 pub enum FrameAdmission {
@@ -41,21 +41,11 @@ pub fn admit_frame(
 fn values_for(own: u8, role: Role, values: Frame) -> FrameAdmission
     ensures { λ r. ⌜ r ≡ valuesFor own role values ⌝ }
 {
-    if domain_in(values) != own {
+    if values.domain() != own {
         return FrameAdmission::Refused(Refusal::Domain);
     }
     if !is_in(role, Needed::Slave) {
         return FrameAdmission::Refused(Refusal::Domain);
     }
     FrameAdmission::Admitted(values)
-}
-
-// The domain that a frame's values name.
-pub fn domain_in(values: Frame) -> u8
-    ensures { λ r. ⌜ r ≡ domainIn values ⌝ }
-{
-    match values {
-        Frame::Sync(sync) => sync.domain,
-        Frame::Fup(fup) => fup.domain,
-    }
 }

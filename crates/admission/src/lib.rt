@@ -1,16 +1,16 @@
 // What a call tests before it steps a record (paper 01, "Refusal numbers", 1 and 4): the reading, and whether
-// the record is that of the domain asked for, in the role needed. No record is taken here: the tests go by a
-// record's number and role. A frame's tests are in `frame_admission`.
-mod frames;
+// the record is that of the domain asked for, in the role needed; and the reading that is kept after it. No record
+// is taken here: the tests go by a record's number and role. A frame's tests, 1 to 4, are in `frames`.
+pub mod frames;
 
 use clock::VirtualLocalTime;
 pub use frames::FrameAdmission;
 pub use frames::admit_frame;
-pub use frames::domain_in;
 use refusal::Refusal;
 use settings::Role;
 ghost use mathlib.Core.Path.{_≡_};
 ghost use Rattle.admission.specs.Reading.{isGoodReading};
+ghost use Rattle.admission.specs.Kept.{keptAfter};
 ghost use Rattle.admission.specs.Admission.{isIn, admittedOf};
 
 // The role that a call needs.
@@ -30,6 +30,13 @@ pub fn is_good_reading(kept: VirtualLocalTime, t: VirtualLocalTime) -> bool
     ensures { λ r. ⌜ r ≡ isGoodReading kept t ⌝ }
 {
     if t.is_reading() { kept.0 <= t.0 } else { false }
+}
+
+// The reading kept after a call at t that answers a number: t where it is a success.
+pub fn kept_after(number: u8, kept: VirtualLocalTime, t: VirtualLocalTime) -> VirtualLocalTime
+    ensures { λ r. ⌜ r ≡ keptAfter number kept t ⌝ }
+{
+    if number == 0 { t } else { kept }
 }
 
 // A call for domain `asked` at t, to the record of number `own`: 1, 4.

@@ -1,7 +1,7 @@
 // The bench's line of an answer (paper 01, "Bench program"). A refusal is its number and nothing more.
-use answers::CycleAnswer;
-use answers::ReadAnswer;
+use call_read::ReadAnswer;
 use master_confirm::ConfirmAnswer;
+use node::CycleAnswer;
 use node_call::CallAnswer;
 use node_call::call_number;
 use text::lines::put_answer;

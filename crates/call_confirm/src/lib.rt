@@ -2,7 +2,6 @@
 use admission::Admission;
 use admission::Needed;
 use admission::admit;
-use answers::confirm_number;
 use clock::VirtualLocalTime;
 use domain::Domain;
 use frame::Frame;
@@ -69,7 +68,7 @@ fn with_room(answer: ConfirmAnswer, length: usize) -> ConfirmAnswer
     if 8 <= length {
         return answer;
     }
-    if confirm_number(answer) == 11 {
+    if answer.number() == 11 {
         return answer;
     }
     ConfirmAnswer::Refused(Refusal::NoRoom)

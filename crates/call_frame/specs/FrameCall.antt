@@ -7,12 +7,12 @@ use Rattle.admission.specs.declared.frames.FrameAdmission.{FrameAdmission}
 use Rattle.admission.specs.declared.frames.FrameAdmission.the-variants.{Admitted, Refused as refused}
 use Rattle.admission.specs.FrameAdmission.{frameAdmitted}
 use Rattle.domain.specs.declared.Domain.{Domain}
-use Rattle.slave_update.specs.declared.answer.FrameAnswer.the-variants.{Refused}
-use Rattle.slave_update.specs.Answer.{frameNumber}
-use Rattle.slave_sync.specs.declared.FrameStep.{FrameStep}
+use Rattle.slave_answer.specs.declared.FrameAnswer.the-variants.{Refused}
+use Rattle.slave_answer.specs.Answer.{frameNumber}
+use Rattle.slave_answer.specs.declared.FrameStep.{FrameStep}
 use Rattle.slave_frame.specs.Step.{frameOf}
 use Rattle.call_frame.specs.declared.FrameCall.{FrameCall}
-use Rattle.answers.specs.Kept.{keptAfter}
+use Rattle.admission.specs.Kept.{keptAfter}
 
 abbrev pub frameStepped : FrameStep → (kept t : VirtualLocalTime) → FrameCall
 frameStepped s kept t =

@@ -1,12 +1,11 @@
 // A frame for one record (paper 01, "A slave's domain" and "Refusal numbers").
 use admission::FrameAdmission;
 use admission::admit_frame;
-use answers::frame_number;
-use answers::kept_after;
+use admission::kept_after;
 use clock::VirtualLocalTime;
 use domain::Domain;
+use slave_answer::FrameAnswer;
 use slave_frame::take_frame;
-use slave_update::FrameAnswer;
 ghost use mathlib.Core.Path.{_≡_};
 ghost use Rattle.call_frame.specs.FrameCall.{frameCallOf};
 
@@ -40,7 +39,7 @@ pub fn frame_call(
             FrameCall {
                 answer,
                 domain: after,
-                kept: kept_after(frame_number(answer), kept, t),
+                kept: kept_after(answer.number(), kept, t),
             }
         }
     }

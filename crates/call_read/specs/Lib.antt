@@ -1,2 +1,3 @@
--- The definitions of `call_read`.
+-- The definitions of `call_read`, in the order to read them.
+pub mod Answer
 pub mod ReadCall

@@ -15,9 +15,9 @@ use Rattle.admission.specs.declared.Needed.the-variants.{Either}
 use Rattle.admission.specs.Admission.{admittedOf}
 use Rattle.domain.specs.declared.Domain.{Domain}
 use Rattle.slave_status.specs.Status.{statusOf}
-use Rattle.answers.specs.declared.Shown.{Shown}
-use Rattle.answers.specs.declared.ReadAnswer.{ReadAnswer}
-use Rattle.answers.specs.declared.ReadAnswer.the-variants.{Time, Refused}
+use Rattle.call_read.specs.declared.Shown.{Shown}
+use Rattle.call_read.specs.declared.ReadAnswer.{ReadAnswer}
+use Rattle.call_read.specs.declared.ReadAnswer.the-variants.{Time, Refused}
 
 -- ---- A master: "status 0x08", "A read gives the settings' user bytes."
 abbrev pub statusFor : Role → ℕ → ℕ

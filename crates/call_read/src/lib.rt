@@ -3,8 +3,7 @@
 use admission::Admission;
 use admission::Needed;
 use admission::admit;
-use answers::ReadAnswer;
-use answers::Shown;
+use clock::GlobalTime;
 use clock::Held;
 use clock::VirtualLocalTime;
 use domain::Domain;
@@ -13,7 +12,33 @@ use settings::Role;
 use settings::UserBytes;
 use slave_status::status_at;
 ghost use mathlib.Core.Path.{_≡_};
+ghost use Rattle.call_read.specs.Answer.{readNumber};
 ghost use Rattle.call_read.specs.ReadCall.{statusFor, userFor, readCallOf};
+
+// What a read shows.
+pub struct Shown {
+    pub time: GlobalTime,
+    pub status: u8,
+    pub user: UserBytes,
+    pub updates: u8,
+}
+
+pub enum ReadAnswer {
+    Time(Shown),
+    Refused(Refusal),
+}
+
+impl ReadAnswer {
+    // The paper's number.
+    pub fn number(self) -> u8
+        ensures { λ r. ⌜ r ≡ readNumber self ⌝ }
+    {
+        match self {
+            ReadAnswer::Time(_) => 0,
+            ReadAnswer::Refused(refusal) => refusal.number(),
+        }
+    }
+}
 
 // 1, 4, 10.
 pub fn read_call(

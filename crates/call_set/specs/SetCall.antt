@@ -10,7 +10,7 @@ use Rattle.master_set.specs.declared.SetAnswer.the-variants.{Refused}
 use Rattle.master_set.specs.declared.SetStep.{SetStep}
 use Rattle.master_set.specs.Set.{setNumber, setOf}
 use Rattle.call_set.specs.declared.SetCall.{SetCall}
-use Rattle.answers.specs.Kept.{keptAfter}
+use Rattle.admission.specs.Kept.{keptAfter}
 
 abbrev pub setStepped : SetStep → (kept t : VirtualLocalTime) → SetCall
 setStepped s kept t =

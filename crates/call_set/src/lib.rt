@@ -2,8 +2,7 @@
 use admission::Admission;
 use admission::Needed;
 use admission::admit;
-use answers::kept_after;
-use answers::set_number;
+use admission::kept_after;
 use clock::VirtualLocalTime;
 use domain::Domain;
 use master_set::SetAnswer;
@@ -43,7 +42,7 @@ pub fn set_call(
             SetCall {
                 answer,
                 domain: after,
-                kept: kept_after(set_number(answer), kept, t),
+                kept: kept_after(answer.number(), kept, t),
             }
         }
     }

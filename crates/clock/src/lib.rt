@@ -2,8 +2,8 @@
 // Time, and the base that ties one to the other. This is the only crate where the two meet, and no
 // function here takes one where the other is expected. Nothing here refuses: each function answers
 // on every value, also on those that no node holds. Every crate above builds on these types.
-mod apart;
-mod difference;
+pub mod apart;
+pub mod difference;
 
 pub use apart::Apart;
 pub use apart::compare;

@@ -10,6 +10,8 @@ use Rattle.frame.specs.declared.types.FrameType.{FrameType}
 use Rattle.frame.specs.Types.{typeOf}
 use Rattle.frame.specs.ByteTwo.{domainOf, counterOf, byteTwoOf}
 use Rattle.frame.specs.Ids.{idAt}
+use Rattle.frame.specs.declared.values.Frame.{Frame}
+use Rattle.frame.specs.Values.{domainIn}
 
 pub of-only : (byte : ℕ) → OnlyOne (λ (r : FrameType). r ≡ typeOf byte)
 of-only byte = equation-only _
@@ -25,3 +27,6 @@ byte-two-only domain counter = equation-only _
 
 pub id-at-only : (list : List ℕ) (counter : ℕ) → OnlyOne (λ (r : ℕ). r ≡ idAt list counter)
 id-at-only list counter = equation-only _
+
+pub domain-only : (values : Frame) → OnlyOne (λ (r : ℕ). r ≡ domainIn values)
+domain-only values = equation-only _

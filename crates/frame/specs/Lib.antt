@@ -2,3 +2,4 @@
 pub mod Types
 pub mod ByteTwo
 pub mod Ids
+pub mod Values

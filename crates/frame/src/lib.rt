@@ -8,6 +8,7 @@ mod values;
 
 pub use data_ids::DataIds;
 pub use data_ids::id_at;
+pub use nibbles::COUNTERS;
 pub use nibbles::byte_two;
 pub use nibbles::counter_of;
 pub use nibbles::domain_of;

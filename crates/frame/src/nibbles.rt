@@ -2,6 +2,9 @@
 ghost use mathlib.Core.Path.{_≡_};
 ghost use Rattle.frame.specs.ByteTwo.{domainOf, counterOf, byteTwoOf};
 
+// Counters 0 to 15.
+pub const COUNTERS: u8 = 16;
+
 pub fn domain_of(two: u8) -> u8
     ensures { λ r. ⌜ r ≡ domainOf two ⌝ }
 {

@@ -1,5 +1,7 @@
 // The values of a frame (paper 01, "Frames"): its type and its fields, but for reserved bits and
 // check byte.
+ghost use mathlib.Core.Path.{_≡_};
+ghost use Rattle.frame.specs.Values.{domainIn};
 
 // Plain, with the user byte that byte 1 carries, 1 in a SYNC and 2 in a FUP; or secured, where byte 1
 // is the check byte and no value.
@@ -30,4 +32,16 @@ pub struct Fup {
 pub enum Frame {
     Sync(Sync),
     Fup(Fup),
+}
+
+impl Frame {
+    // The domain that the values name.
+    pub fn domain(self) -> u8
+        ensures { λ r. ⌜ r ≡ domainIn self ⌝ }
+    {
+        match self {
+            Frame::Sync(sync) => sync.domain,
+            Frame::Fup(fup) => fup.domain,
+        }
+    }
 }

@@ -9,7 +9,7 @@ use Rattle.promise.specs.Only.{OnlyOne}
 use Rattle.promise.proofs.Laws.{equation-only}
 use Rattle.frame.specs.declared.data_ids.DataIds.{DataIds}
 use Rattle.frame_check.specs.declared.CheckMode.{CheckMode}
-use Rattle.frame_check.specs.Check.{isGood}
+use Rattle.frame_check.specs.Check.{isTaken}
 
-pub takes-only : (mode : CheckMode) (ids : DataIds) (bytes : List ℕ) → OnlyOne (λ (r : Bool). r ≡ isGood mode ids bytes)
+pub takes-only : (mode : CheckMode) (ids : DataIds) (bytes : List ℕ) → OnlyOne (λ (r : Bool). r ≡ isTaken mode ids bytes)
 takes-only mode ids bytes = equation-only _

@@ -52,6 +52,6 @@ judged PlainFup mode ids bytes = takesPlain mode
 judged SecuredFup mode ids bytes = takesSecured mode (isRight (ids .fup) bytes)
 judged Unknown mode ids bytes = false
 
-abbrev pub isGood : CheckMode → DataIds → List ℕ → Bool
-isGood mode ids bytes =
+abbrev pub isTaken : CheckMode → DataIds → List ℕ → Bool
+isTaken mode ids bytes =
     cond (eqb (length bytes) 8) (judged (typeOf (getD bytes 0 0)) mode ids bytes) false

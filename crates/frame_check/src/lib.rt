@@ -6,7 +6,7 @@ use frame::counter_of;
 use frame::id_at;
 ghost use mathlib.Core.Path.{_≡_};
 ghost use lib.ListN.{length};
-ghost use Rattle.frame_check.specs.Check.{isGood, takesPlain, takesSecured, isRight};
+ghost use Rattle.frame_check.specs.Check.{isTaken, takesPlain, takesSecured, isRight};
 
 pub enum CheckMode {
     Validated,
@@ -18,7 +18,7 @@ pub enum CheckMode {
 impl CheckMode {
     // Whether a frame is good under the mode: false for bytes that are no frame.
     pub fn takes(self, bytes: &[u8], ids: DataIds) -> bool
-        ensures { λ r. ⌜ r ≡ isGood self ids (now (bytes .entry)) ⌝ }
+        ensures { λ r. ⌜ r ≡ isTaken self ids (now (bytes .entry)) ⌝ }
     {
         if bytes.len() != 8 {
             return false;
@@ -49,7 +49,7 @@ impl CheckMode {
         }
     }
 
-    fn takes_secured(self, bytes: &[u8], list: [u8; 16]) -> bool
+    fn takes_secured(self, bytes: &[u8], list: [u8; DataIds::COUNTERS]) -> bool
         requires { ⌜ length (now bytes) ≡ 8 ⌝ }
         ensures { λ r. ⌜ r ≡ takesSecured self (isRight list (now (bytes .entry))) ⌝ }
     {
@@ -62,7 +62,7 @@ impl CheckMode {
     }
 }
 
-fn right(bytes: &[u8], list: [u8; 16]) -> bool
+fn right(bytes: &[u8], list: [u8; DataIds::COUNTERS]) -> bool
     requires { ⌜ length (now bytes) ≡ 8 ⌝ }
     ensures { λ r. ⌜ r ≡ isRight list (now (bytes .entry)) ⌝ }
 {

@@ -28,10 +28,11 @@ use Rattle.frame_check.specs.declared.CheckMode.{CheckMode}
 use Rattle.frame.specs.Types.{typeOf}
 use Rattle.frame.specs.ByteTwo.{byteTwoOf}
 use Rattle.frame.specs.Ids.{idAt}
-use Rattle.frame_read.specs.Read.{readOf, valuesOf, wordOf, syncOf, fupOf}
+use Rattle.frame_read.specs.Read.{readOf, valuesOf, wordOf, syncIn, fupIn}
 use Rattle.frame_write.specs.Write.{flags, restOf, framedOf, bytesOf}
-use Rattle.frame_check.specs.Check.{isGood, isRight, takesSecured}
-use Rattle.frame_laws.specs.RoundTrip.{FrameFits, protectionOf, takesKind, AreBytes, zeroReserved, rightIfSecured}
+use Rattle.frame_check.specs.Check.{isTaken, isRight, takesSecured}
+use Rattle.frame.specs.Values.{protectionIn}
+use Rattle.frame_laws.specs.RoundTrip.{FrameFits, takesKind, AreBytes, zeroReserved, rightIfSecured}
 
 -- ---- read-back
 
@@ -143,20 +144,20 @@ module _ (ids : DataIds) (zero' one two three four five six seven : ℕ)
       (k : FrameType) → TypeIs k zero' → (f : Frame) → valuesOf k eight ≡ Values f →
       zeroReserved k eight ≡ true → rightIfSecured k ids eight ≡ true → bytesOf ids f ≡ eight
   back PlainSync t f e z r =
-      let q : sync (syncOf eight (Plain one)) ≡ f = cc in
+      let q : sync (syncIn eight (Plain one)) ≡ f = cc in
       let p = rest-of three refl in
       subst (λ (f : Frame). bytesOf ids f ≡ eight) q (λ i. sym t i ∷ one ∷ p i)
   back SecuredSync t f e z r =
-      let q : sync (syncOf eight Secured) ≡ f = cc in
+      let q : sync (syncIn eight Secured) ≡ f = cc in
       let p = rest-of three refl in
       let c = check-of (ids .sync) three refl r in
       subst (λ (f : Frame). bytesOf ids f ≡ eight) q (λ i. sym t i ∷ c i ∷ p i)
   back PlainFup t f e z r =
-      let q : fup (fupOf eight (Plain one)) ≡ f = cc in
+      let q : fup (fupIn eight (Plain one)) ≡ f = cc in
       let p = rest-of _ (flags-of three (ltb-true three 8 z)) in
       subst (λ (f : Frame). bytesOf ids f ≡ eight) q (λ i. sym t i ∷ one ∷ p i)
   back SecuredFup t f e z r =
-      let q : fup (fupOf eight Secured) ≡ f = cc in
+      let q : fup (fupIn eight Secured) ≡ f = cc in
       let p = rest-of _ (flags-of three (ltb-true three 8 z)) in
       let c = check-of (ids .fup) _ (flags-of three (ltb-true three 8 z)) r in
       subst (λ (f : Frame). bytesOf ids f ≡ eight) q (λ i. sym t i ∷ c i ∷ p i)
@@ -207,7 +208,7 @@ module _ (list : List ℕ) (domain counter three word : ℕ) where
 
 good-sync :
     (mode : CheckMode) (ids : DataIds) (domain counter user0 seconds : ℕ) (p : Protection) →
-    isGood mode ids
+    isTaken mode ids
     (framedOf 0x10 0x20 p (byteTwoOf domain counter) user0 seconds (idAt (ids .sync) counter))
     ≡ takesKind mode p
 good-sync mode ids d c u s (Plain user) = refl
@@ -215,7 +216,7 @@ good-sync mode ids d c u s Secured = ap (takesSecured mode) (right-back (ids .sy
 
 good-fup :
     (mode : CheckMode) (ids : DataIds) (domain counter three nanoseconds : ℕ) (p : Protection) →
-    isGood mode ids
+    isTaken mode ids
     (framedOf 0x18 0x28 p (byteTwoOf domain counter) three nanoseconds (idAt (ids .fup) counter))
     ≡ takesKind mode p
 good-fup mode ids d c t n (Plain user) = refl
@@ -223,7 +224,7 @@ good-fup mode ids d c t n Secured = ap (takesSecured mode) (right-back (ids .fup
 
 pub good-back :
     (mode : CheckMode) (ids : DataIds) (f : Frame) →
-    isGood mode ids (bytesOf ids f) ≡ takesKind mode (protectionOf f)
+    isTaken mode ids (bytesOf ids f) ≡ takesKind mode (protectionIn f)
 good-back mode ids (sync s) = good-sync mode ids (s .domain) (s .counter) (s .user0) (s .seconds) (s .protection)
 good-back mode ids (fup f) =
     good-fup mode ids (f .domain) (f .counter) (flags (f .sgw) (f .ovs)) (f .nanoseconds) (f .protection)

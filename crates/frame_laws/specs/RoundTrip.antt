@@ -18,6 +18,7 @@ use Rattle.frame.specs.declared.types.FrameType.the-variants.{
 use Rattle.frame_check.specs.declared.CheckMode.{CheckMode}
 use Rattle.frame.specs.declared.values.Protection.{Protection}
 use Rattle.frame.specs.declared.values.Protection.the-variants.{Plain, Secured}
+use Rattle.frame.specs.ByteTwo.{counters}
 use Rattle.frame.specs.declared.values.Sync.{Sync}
 use Rattle.frame.specs.declared.values.Fup.{Fup}
 use Rattle.frame.specs.declared.values.Frame.{Frame}
@@ -27,12 +28,12 @@ use Rattle.frame_check.specs.Check.{isRight, takesPlain, takesSecured}
 -- ---- values that fit their bits
 pub record SyncFits (s : Sync) : Type 0 where
   pub domain : s .domain < 16
-  pub counter : s .counter < 16
+  pub counter : s .counter < counters
   pub seconds : s .seconds < 2 ^ 32
 
 pub record FupFits (f : Fup) : Type 0 where
   pub domain : f .domain < 16
-  pub counter : f .counter < 16
+  pub counter : f .counter < counters
   pub ovs : f .ovs < 4
   pub nanoseconds : f .nanoseconds < 2 ^ 32
 
@@ -41,10 +42,6 @@ FrameFits (sync s) = SyncFits s
 FrameFits (fup f) = FupFits f
 
 -- ---- the mode takes frames of this kind, and "secured ones with a right check byte"
-abbrev pub protectionOf : Frame → Protection
-protectionOf (sync s) = s .protection
-protectionOf (fup f) = f .protection
-
 abbrev pub takesKind : CheckMode → Protection → Bool
 takesKind mode (Plain user) = takesPlain mode
 takesKind mode Secured = takesSecured mode true

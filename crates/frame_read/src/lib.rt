@@ -10,7 +10,7 @@ use frame::domain_of;
 ghost use mathlib.Core.Path.{_≡_};
 ghost use Prim.Native.Nat.{_<_};
 ghost use lib.ListN.{length};
-ghost use Rattle.frame_read.specs.Read.{readOf, syncOf, fupOf, wordOf};
+ghost use Rattle.frame_read.specs.Read.{readOf, namedDomain, syncIn, fupIn, wordOf};
 
 // What reading bytes finds.
 pub enum Read {
@@ -36,12 +36,23 @@ pub fn read_frame(bytes: &[u8]) -> Read
     }
 }
 
+// The domain that the bytes name: 0 where there is no byte 2.
+pub fn named_domain(bytes: &[u8]) -> u8
+    ensures { λ r. ⌜ r ≡ namedDomain (now (bytes .entry)) ⌝ }
+{
+    if bytes.len() < 3 {
+        0
+    } else {
+        domain_of(bytes[2])
+    }
+}
+
 fn sync(bytes: &[u8], protection: Protection) -> Sync
     requires { ⌜ length (now bytes) ≡ 8 ⌝ }
-    ensures { λ r. ⌜ r ≡ syncOf (now (bytes .entry)) protection ⌝ }
+    ensures { λ r. ⌜ r ≡ syncIn (now (bytes .entry)) protection ⌝ }
 {
     Sync {
-        domain: domain_of(bytes[2]),
+        domain: named_domain(bytes),
         counter: counter_of(bytes[2]),
         user0: bytes[3],
         seconds: word(bytes),
@@ -51,10 +62,10 @@ fn sync(bytes: &[u8], protection: Protection) -> Sync
 
 fn fup(bytes: &[u8], protection: Protection) -> Fup
     requires { ⌜ length (now bytes) ≡ 8 ⌝ }
-    ensures { λ r. ⌜ r ≡ fupOf (now (bytes .entry)) protection ⌝ }
+    ensures { λ r. ⌜ r ≡ fupIn (now (bytes .entry)) protection ⌝ }
 {
     Fup {
-        domain: domain_of(bytes[2]),
+        domain: named_domain(bytes),
         counter: counter_of(bytes[2]),
         sgw: bytes[3] / 4 % 2 == 1,
         ovs: bytes[3] % 4,

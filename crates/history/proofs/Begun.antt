@@ -13,7 +13,7 @@ use Rattle.settings.specs.declared.node_settings.Verdict.{Verdict}
 use Rattle.settings.specs.declared.node_settings.Verdict.the-variants.{Good}
 use Rattle.settings.specs.Node.{judgedOf}
 use Rattle.domain.specs.Fresh.{freshOf}
-use Rattle.round.specs.Records.{recordAt}
+use Rattle.domain.specs.Records.{recordAt}
 use Rattle.node.specs.New.{recordsOf, newAs, newOf}
 use Rattle.node_laws.specs.Reachable.{IsSettings}
 

@@ -27,13 +27,13 @@ use Rattle.domain.specs.declared.Pairing.{Pairing}
 use Rattle.domain.specs.declared.Pairing.the-variants.{Open}
 use Rattle.slave_counter.specs.declared.CounterVerdict.{CounterVerdict}
 use Rattle.slave_counter.specs.declared.CounterVerdict.the-variants.{Free}
-use Rattle.slave_counter.specs.Counter.{stepOf, verdictOf, isGoodCounter}
+use Rattle.slave_counter.specs.Counter.{jumpOf, verdictOf, isGoodCounter}
 use Rattle.slave_pair.specs.declared.joining.Joined.{Joined}
 use Rattle.slave_pair.specs.declared.joining.Joined.the-variants.{With, Refused}
 use Rattle.slave_pair.specs.Pair.{pairOf}
 use Rattle.slave_pair.specs.Join.{joinedOf}
-use Rattle.slave_update.specs.Answer.{frameNumber}
-use Rattle.slave_sync.specs.declared.FrameStep.{FrameStep}
+use Rattle.slave_answer.specs.Answer.{frameNumber}
+use Rattle.slave_answer.specs.declared.FrameStep.{FrameStep}
 use Rattle.slave_sync.specs.Sync.{takesSync, syncOf}
 use Rattle.slave_fup.specs.Fup.{fupAs, fupOf}
 use Rattle.slave_frame.specs.Step.{kindOf}
@@ -113,9 +113,9 @@ next-good :
     After m s c y → isGoodCounter (verdictOf j loss (Seen c₀ at) c t) ≡ true
 next-good m no-sync y j loss c₀ c at t h e a = absurd e
 next-good m (newest c₁ y₁) y j loss c₀ c at t h e a =
-    let one : stepOf c₀ c ≡ 1 = omega (arith, a .0, e) in
+    let one : jumpOf c₀ c ≡ 1 = omega (arith, a .0, e) in
     either (λ (v : CounterVerdict). isGoodCounter v ≡ true) (ltb loss (spanOf at t)) refl
-    (rw (le-leb 1 (stepOf c₀ c) (omega arith), le-leb (stepOf c₀ c) j (omega arith)) refl)
+    (rw (le-leb 1 (jumpOf c₀ c) (omega arith), le-leb (jumpOf c₀ c) j (omega arith)) refl)
 
 free-good : (b : Bool) (v : CounterVerdict) → isGoodCounter (cond b Free v) ≡ false → b ≡ false
 free-good true v e = e

@@ -15,14 +15,14 @@ use Rattle.frame_read.specs.Read.{readOf}
 use Rattle.frame_write.specs.Write.{bytesOf}
 use Rattle.frame_check.specs.declared.CheckMode.{CheckMode}
 use Rattle.frame_check.specs.declared.CheckMode.the-variants.{Validated, NotValidated, Ignored, Optional}
-use Rattle.frame_check.specs.Check.{isGood}
+use Rattle.frame_check.specs.Check.{isTaken}
 use Rattle.frame_laws.proofs.Laws.{good-back}
 use Rattle.settings.specs.declared.domain_settings.DomainSettings.{DomainSettings}
 use Rattle.settings.specs.declared.domain_settings.Security.{Security}
 use Rattle.settings.specs.declared.domain_settings.Security.the-variants.{Plain, Secured}
 use Rattle.master_rules.specs.Sent.{protectionOf}
 use Rattle.master_follow.specs.Follow.{wholeOf, ovsOf}
-use Rattle.admission.specs.FrameAdmission.{domainIn}
+use Rattle.frame.specs.Values.{domainIn}
 use Rattle.history.specs.History.{Link, masterSettings, slaveSettings, Sent, sentIn, isRead, isHeard}
 use Rattle.history.specs.Demand.{Linked, ReadsAs, Reads, EachFrameHeard}
 use Rattle.history.proofs.Row.{syncValues}
@@ -37,7 +37,7 @@ syncAs security i c user0 user seconds =
 
 sync-good :
     (security : Security) (mode : CheckMode) (master slave : DataIds) → ReadsAs security mode master slave →
-    (i c user0 user seconds : ℕ) → isGood mode slave (bytesOf master (syncAs security i c user0 user seconds)) ≡ true
+    (i c user0 user seconds : ℕ) → isTaken mode slave (bytesOf master (syncAs security i c user0 user seconds)) ≡ true
 sync-good Plain mode master slave r i c user0 user seconds = r
 sync-good Secured Validated master slave r i c user0 user seconds =
     let same : master ≡ slave = r in
@@ -63,7 +63,7 @@ fupAs security i c ovs user nanoseconds sgw =
 fup-good :
     (security : Security) (mode : CheckMode) (master slave : DataIds) → ReadsAs security mode master slave →
     (i c ovs user nanoseconds : ℕ) (sgw : Bool) →
-    isGood mode slave (bytesOf master (fupAs security i c ovs user nanoseconds sgw)) ≡ true
+    isTaken mode slave (bytesOf master (fupAs security i c ovs user nanoseconds sgw)) ≡ true
 fup-good Plain mode master slave r i c ovs user nanoseconds sgw = r
 fup-good Secured Validated master slave r i c ovs user nanoseconds sgw =
     let same : master ≡ slave = r in
@@ -82,10 +82,10 @@ module _ (k : Link) (linked : Linked k) (reads : Reads k) where
 
   heard-as-sent :
       (s : Sent) (f : Frame) → domainIn f ≡ k .domain → readOf (s .bytes) ≡ Values f → s .bytes ≡ bytesOf (m .ids) f →
-      isGood (slaveSettings k .mode) (slaveSettings k .ids) (bytesOf (m .ids) f) ≡ true → isHeard k (s .bytes) ≡ true
+      isTaken (slaveSettings k .mode) (slaveSettings k .ids) (bytesOf (m .ids) f) ≡ true → isHeard k (s .bytes) ≡ true
   heard-as-sent s f own read bytes good =
       λ j. (ap (λ r. isRead r (k .domain)) read ∙ eq-eqb _ _ own) j
-      && (ap (isGood (slaveSettings k .mode) (slaveSettings k .ids)) bytes ∙ good) j
+      && (ap (isTaken (slaveSettings k .mode) (slaveSettings k .ids)) bytes ∙ good) j
 
   sync-heard : (s : Sent) → Known m (k .domain) s → isHeard k (s .bytes) ≡ true
   sync-heard s g =

@@ -28,7 +28,7 @@ use Rattle.domain.specs.declared.Pairing.the-variants.{Waiting, Open}
 use Rattle.slave_pair.specs.declared.joining.Joined.{Joined}
 use Rattle.slave_pair.specs.Join.{isOld, isOther, isAbove, joinedOf}
 use Rattle.slave_update.specs.Update.{newBase}
-use Rattle.slave_sync.specs.declared.FrameStep.{FrameStep}
+use Rattle.slave_answer.specs.declared.FrameStep.{FrameStep}
 use Rattle.slave_sync.specs.Sync.{takesSync}
 use Rattle.slave_fup.specs.Fup.{fupAs}
 use Rattle.slave_frame.specs.Step.{kindOf}

@@ -39,7 +39,8 @@ use Rattle.admission.specs.declared.Needed.the-variants.{Master as master}
 use Rattle.admission.specs.declared.Admission.{Admission}
 use Rattle.admission.specs.Reading.{isGoodReading}
 use Rattle.admission.specs.declared.frames.FrameAdmission.{FrameAdmission}
-use Rattle.admission.specs.FrameAdmission.{domainIn, readFor}
+use Rattle.frame.specs.Values.{domainIn}
+use Rattle.admission.specs.FrameAdmission.{readFor}
 use Rattle.domain.specs.declared.Domain.{Domain}
 use Rattle.domain.specs.declared.Sending.{Sending}
 use Rattle.domain.specs.declared.Sending.the-variants.{Never, Open, Confirmed}
@@ -58,13 +59,13 @@ use Rattle.call_frame.specs.FrameCall.{frameCallAs, frameCallOf}
 use Rattle.call_set.specs.SetCall.{setStepped, setCallAs, setCallOf}
 use Rattle.call_confirm.specs.declared.ConfirmCall.{ConfirmCall}
 use Rattle.call_confirm.specs.ConfirmCall.{withRoom, confirmAnswered, confirmCallAs, confirmCallOf, confirmBytes}
-use Rattle.round.specs.Records.{recordAt}
+use Rattle.domain.specs.Records.{recordAt}
 use Rattle.round.specs.Round.{framesBy, sentAfter, goes, pasted}
 use Rattle.round.specs.Turn.{turnOf, nextAfter}
 use Rattle.node.specs.declared.Node.{Node}
 use Rattle.node.specs.Frame.{addressedBy}
 use Rattle.node.specs.declared.cycles.NodeCycle.{NodeCycle}
-use Rattle.answers.specs.Cycle.{cycleCount}
+use Rattle.node.specs.CycleAnswer.{cycleCount}
 use Rattle.node.specs.Cycle.{isRoomFor, goneFrom, nodeCycleOf, cycleBytes}
 use Rattle.node_call.specs.Calls.{Call, frame, read, set, cycle, confirm, nodeAfter, follows as answers, answerTo}
 use Rattle.node_laws.specs.Good.{SentWithin, RoleGood, Good}

@@ -10,7 +10,7 @@ use lib.ListN.{length, set as put}
 use lib.Seq.{getD-set-same, getD-set-other}
 use borrow.Author.Tests.{eqb-true, eqb-false}
 use Rattle.domain.specs.declared.Domain.{Domain}
-use Rattle.round.specs.Records.{recordAt}
+use Rattle.domain.specs.Records.{recordAt}
 
 pub placed :
     (P : Domain → Type 0) (ds : List Domain) (at i : ℕ) (d : Domain) → i < length ds → (at ≡ i → P d) →

@@ -30,7 +30,7 @@ use Rattle.frame.specs.ByteTwo.{domainOf}
 use Rattle.frame_read.specs.declared.Read.{Read}
 use Rattle.frame_read.specs.declared.Read.the-variants.{LengthNot8, NoSuchType, Values}
 use Rattle.frame_read.specs.Read.{valuesOf, readOf}
-use Rattle.frame_check.specs.Check.{isGood}
+use Rattle.frame_check.specs.Check.{isTaken}
 use Rattle.settings.specs.declared.domain_settings.DomainSettings.{DomainSettings}
 use Rattle.settings.specs.declared.domain_settings.Role.{Role}
 use Rattle.settings.specs.declared.domain_settings.Role.the-variants.{Slave}
@@ -46,13 +46,14 @@ use Rattle.admission.specs.declared.frames.FrameAdmission.the-variants.{
   Admitted as frame-admitted,
   Refused as frame-refused,
 }
-use Rattle.admission.specs.FrameAdmission.{domainIn, readFor, frameAdmitted}
+use Rattle.frame.specs.Values.{domainIn}
+use Rattle.admission.specs.FrameAdmission.{readFor, frameAdmitted}
 use Rattle.domain.specs.declared.Domain.{Domain}
 use Rattle.slave_pair.specs.declared.joining.Joined.{Joined}
 use Rattle.slave_pair.specs.declared.joining.Joined.the-variants.{With, Refused as not-joined}
 use Rattle.slave_pair.specs.Join.{joinedOf}
-use Rattle.slave_update.specs.Answer.{frameNumber}
-use Rattle.slave_sync.specs.declared.FrameStep.{FrameStep}
+use Rattle.slave_answer.specs.Answer.{frameNumber}
+use Rattle.slave_answer.specs.declared.FrameStep.{FrameStep}
 use Rattle.slave_sync.specs.Sync.{takesSync}
 use Rattle.slave_fup.specs.Fup.{fupAs}
 use Rattle.slave_frame.specs.Step.{kindOf, frameOf}
@@ -64,7 +65,7 @@ use Rattle.call_frame.specs.declared.FrameCall.{FrameCall}
 use Rattle.call_frame.specs.FrameCall.{frameStepped, frameCallAs, frameCallOf}
 use Rattle.call_set.specs.SetCall.{setCallAs, setCallOf}
 use Rattle.call_confirm.specs.ConfirmCall.{withRoom, confirmAnswered, confirmCallAs, confirmCallOf}
-use Rattle.round.specs.Records.{recordAt}
+use Rattle.domain.specs.Records.{recordAt}
 use Rattle.node.specs.declared.Node.{Node}
 use Rattle.node.specs.New.{newAs}
 use Rattle.node.specs.declared.cycles.NodeCycle.{NodeCycle}
@@ -183,7 +184,7 @@ module _ (d : Domain) (t : VirtualLocalTime) where
       Holds (d .settings) (frameCallAs a d kept t bytes .domain)
   call-holds (frame-refused refusal) kept bytes = refl
   call-holds (frame-admitted values) kept bytes =
-      either StepHolds (isGood (d .settings .mode) (d .settings .ids) bytes) (kind-holds values) refl
+      either StepHolds (isTaken (d .settings .mode) (d .settings .ids) bytes) (kind-holds values) refl
 
 framed-holds :
     (s : DomainSettings) (d : Domain) (kept : VirtualLocalTime) (i : ℕ) (c : Call) → Holds s d →
@@ -214,7 +215,7 @@ slave-settings k l (atSlave c ∷ h) a =
 -- ---- a heard frame: tests 2 to 5 of a record, which are those of the link
 
 abbrev hears : Domain → List ℕ → Bool
-hears d bytes = isRead (readOf bytes) (d .number) && isGood (d .settings .mode) (d .settings .ids) bytes
+hears d bytes = isRead (readOf bytes) (d .number) && isTaken (d .settings .mode) (d .settings .ids) bytes
 
 hears-same :
     (k : Link) → Linked k → (h : History) → AreCalls h → (bytes : List ℕ) →
@@ -246,7 +247,7 @@ module _ (d : Domain) (kept t : VirtualLocalTime) (bytes : List ℕ) where
 
   read-leaves :
       (r : Read) →
-      (isRead r (d .number) && isGood (d .settings .mode) (d .settings .ids) bytes) ≡ false →
+      (isRead r (d .number) && isTaken (d .settings .mode) (d .settings .ids) bytes) ≡ false →
       Leaves (readFor r (d .number) (d .settings .role))
   read-leaves LengthNot8 e = refl
   read-leaves NoSuchType e = refl
@@ -254,8 +255,8 @@ module _ (d : Domain) (kept t : VirtualLocalTime) (bytes : List ℕ) where
       either-told Leaves (isFor (d .number) (d .settings .role) (domainIn values) slave)
       (λ for.
       let own = both (eqb (domainIn values) (d .number)) (isIn (d .settings .role) slave) for .0 in
-      let bad : isGood (d .settings .mode) (d .settings .ids) bytes ≡ false =
-      subst (λ (b : Bool). (b && isGood (d .settings .mode) (d .settings .ids) bytes) ≡ false) own e
+      let bad : isTaken (d .settings .mode) (d .settings .ids) bytes ≡ false =
+      subst (λ (b : Bool). (b && isTaken (d .settings .mode) (d .settings .ids) bytes) ≡ false) own e
       in
       rw bad refl)
       (λ e. refl)
@@ -315,7 +316,7 @@ heard-call :
     hears d bytes ≡ true → readOf bytes ≡ Values values → isGoodReading kept t ≡ true →
     frameCallOf d kept t bytes ≡ frameStepped (kindOf d t values) kept t
 heard-call d kept t bytes values is e reads good =
-    let tests = both (isRead (readOf bytes) (d .number)) (isGood (d .settings .mode) (d .settings .ids) bytes) e in
+    let tests = both (isRead (readOf bytes) (d .number)) (isTaken (d .settings .mode) (d .settings .ids) bytes) e in
     let own : eqb (domainIn values) (d .number) ≡ true =
     subst (λ (r : Read). isRead r (d .number) ≡ true) reads (tests .0)
     in

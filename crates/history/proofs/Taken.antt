@@ -5,13 +5,14 @@ use Prim.Native.Nat.{ℕ, _+_, _-_, _≤_}
 use mathlib.Core.Path.{_≡_, refl, ap, _∙_}
 use mathlib.Core.List.{List, [], _∷_, _++_}
 use native.Mathlib.Omega.{arith}
-use borrow.Author.Tests.{le-ltb, eq-eqb}
+use borrow.Author.Tests.{le-ltb, le-leb, eq-eqb}
 use Rattle.clock.specs.declared.reading.VirtualLocalTime.{VirtualLocalTime}
 use Rattle.clock.specs.declared.time.GlobalTime.{GlobalTime}
 use Rattle.clock.specs.declared.base.TimeBase.{TimeBase}
 use Rattle.clock.specs.declared.base.Held.{Held}
 use Rattle.clock.specs.declared.base.Held.the-variants.{Unset, Set}
 use Rattle.clock.specs.Reading.{spanOf}
+use Rattle.clock.specs.Time.{mostNanoseconds}
 use Rattle.clock.specs.Base.{baseOf}
 use Rattle.frame.specs.declared.values.Fup.{Fup}
 use Rattle.frame.specs.declared.values.Frame.the-variants.{Fup as fup}
@@ -24,9 +25,9 @@ use Rattle.slave_pair.specs.declared.joining.Joined.{Joined}
 use Rattle.slave_pair.specs.declared.joining.Joined.the-variants.{With}
 use Rattle.slave_pair.specs.Pair.{pairOf}
 use Rattle.slave_pair.specs.Join.{joinedOf}
-use Rattle.slave_update.specs.Answer.{frameNumber}
+use Rattle.slave_answer.specs.Answer.{frameNumber}
 use Rattle.slave_update.specs.Update.{newBase, updateOf}
-use Rattle.slave_sync.specs.declared.FrameStep.{FrameStep}
+use Rattle.slave_answer.specs.declared.FrameStep.{FrameStep}
 use Rattle.slave_fup.specs.Fup.{takenBy, fupAs, fupOf}
 use Rattle.master_follow.specs.Follow.{wholeOf, ovsOf}
 use Rattle.node_call.specs.Calls.{numbered}
@@ -42,9 +43,9 @@ use Rattle.history.proofs.SlaveView.{slave-settings}
 -- ---- a FUP that is taken
 joined :
     (limit : ℕ) (p : OpenPair) (t : VirtualLocalTime) (f : Fup) → spanOf (p .at) t ≤ limit → f .counter ≡ p .counter →
-    f .nanoseconds ≤ 999999999 → joinedOf limit (Open p) t f ≡ With p
+    f .nanoseconds ≤ mostNanoseconds → joinedOf limit (Open p) t f ≡ With p
 joined limit p t f h e n =
-    rw (le-ltb limit (spanOf (p .at) t) h, eq-eqb (f .counter) (p .counter) e, le-ltb 999999999 (f .nanoseconds) n) refl
+    rw (le-ltb limit (spanOf (p .at) t) h, eq-eqb (f .counter) (p .counter) e, le-leb (f .nanoseconds) mostNanoseconds n) refl
 
 abbrev takenAs : Domain → OpenPair → Fup → FrameStep
 takenAs d p f =
@@ -54,7 +55,7 @@ takenAs d p f =
 
 taken-as :
     (d : Domain) (p : OpenPair) (t : VirtualLocalTime) (f : Fup) → d .pairing ≡ Open p →
-    spanOf (p .at) t ≤ d .settings .«follow_up_time» → f .counter ≡ p .counter → f .nanoseconds ≤ 999999999 →
+    spanOf (p .at) t ≤ d .settings .«follow_up_time» → f .counter ≡ p .counter → f .nanoseconds ≤ mostNanoseconds →
     fupOf d t f ≡ takenAs d p f
 taken-as d p t f o h e n =
     ap (λ (j : Joined). fupAs j d f)

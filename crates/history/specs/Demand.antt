@@ -11,6 +11,7 @@ use Rattle.clock.specs.Reading.{isReading, spanOf}
 use Rattle.clock.specs.Time.{advanced}
 use Rattle.clock.specs.Base.{baseOf}
 use Rattle.frame.specs.declared.data_ids.DataIds.{DataIds}
+use Rattle.frame.specs.ByteTwo.{counters}
 use Rattle.frame_check.specs.declared.CheckMode.{CheckMode}
 use Rattle.frame_check.specs.declared.CheckMode.the-variants.{Validated, NotValidated, Ignored, Optional}
 use Rattle.frame_check.specs.Check.{takesPlain}
@@ -18,7 +19,7 @@ use Rattle.settings.specs.declared.domain_settings.Role.the-variants.{Slave, Ma
 use Rattle.settings.specs.declared.domain_settings.Security.{Security}
 use Rattle.settings.specs.declared.domain_settings.Security.the-variants.{Plain, Secured}
 use Rattle.settings.specs.declared.node_settings.Verdict.the-variants.{Good}
-use Rattle.settings.specs.Node.{judgedOf}
+use Rattle.settings.specs.Node.{places, judgedOf}
 use Rattle.domain.specs.Updates.{nextUpdate}
 use Rattle.node_call.specs.Calls.{Call, frame, numbered, answerTo}
 use Rattle.node_laws.specs.Reachable.{IsCall, IsSettings}
@@ -49,7 +50,7 @@ use Rattle.history.specs.History.{
 -- ---- "Take one master and one fresh slave": good settings, the domain the master's in one and the slave's in
 -- the other
 pub record Linked (k : Link) : Type 0 where
-  pub domain : k .domain < 16
+  pub domain : k .domain < places
   pub masters : IsSettings (k .master)
   pub slaves : IsSettings (k .slave)
   pub master-good : judgedOf (k .master) ≡ Good
@@ -70,13 +71,13 @@ Reads k =
     ReadsAs (masterSettings k .security) (slaveSettings k .mode) (masterSettings k .ids) (slaveSettings k .ids)
 
 -- ---- calls as their arguments' types say
-abbrev pub callOf : Event → Call
-callOf (atMaster c) = c
-callOf (atSlave c) = c
+abbrev pub callIn : Event → Call
+callIn (atMaster c) = c
+callIn (atSlave c) = c
 
 abbrev pub AreCalls : History → Type 0
 AreCalls [] = Unit {0}
-AreCalls (x ∷ h) = AreCalls h × IsCall (callOf x)
+AreCalls (x ∷ h) = AreCalls h × IsCall (callIn x)
 
 -- ---- "the slave reads the master's frames": each of them is heard wherever it is handed in
 abbrev pub EachFrameHeard : Type 0
@@ -88,7 +89,7 @@ EachFrameHeard =
 -- along the history"
 abbrev pub InRange : History → Type 0
 InRange [] = Unit {0}
-InRange (x ∷ h) = InRange h × (isReading (readingOf (callOf x)) ≡ true)
+InRange (x ∷ h) = InRange h × (isReading (readingOf (callIn x)) ≡ true)
 
 abbrev pub momentOf : Link → Event → ℕ
 momentOf k (atMaster c) = onMaster k (readingOf c)
@@ -117,8 +118,8 @@ Carried k (atSlave c ∷ h) = Carried k h × ((x : Heard) → In x (heardBy k c)
 
 -- ---- "16 sending periods exceed E plus the follow-up time and E plus the confirmation time"
 pub record Exceed (k : Link) : Type 0 where
-  pub follow-up : k .e + slaveSettings k .«follow_up_time» < 16 * masterSettings k .period
-  pub confirmation : k .e + masterSettings k .«confirmation_time» < 16 * masterSettings k .period
+  pub follow-up : k .e + slaveSettings k .«follow_up_time» < counters * masterSettings k .period
+  pub confirmation : k .e + masterSettings k .«confirmation_time» < counters * masterSettings k .period
 
 -- ---- "each time the slave holds is the time one SYNC was sent with, carried on to its confirmation and tied to
 -- the slave's reading at a copy of that SYNC": its confirmation gives the FUP that the domain sends next after it

@@ -16,13 +16,13 @@ use Rattle.clock.specs.Base.{timeAt}
 use Rattle.frame_read.specs.declared.Read.{Read}
 use Rattle.frame_read.specs.declared.Read.the-variants.{LengthNot8, NoSuchType, Values}
 use Rattle.frame_read.specs.Read.{readOf}
-use Rattle.frame_check.specs.Check.{isGood}
+use Rattle.frame_check.specs.Check.{isTaken}
 use Rattle.settings.specs.declared.domain_settings.DomainSettings.{DomainSettings}
 use Rattle.settings.specs.Domain.{absentHeld}
 use Rattle.settings.specs.declared.node_settings.NodeSettings.{NodeSettings}
 use Rattle.domain.specs.declared.Domain.{Domain}
-use Rattle.admission.specs.FrameAdmission.{domainIn}
-use Rattle.round.specs.Records.{recordAt}
+use Rattle.frame.specs.Values.{domainIn}
+use Rattle.domain.specs.Records.{recordAt}
 use Rattle.node.specs.declared.Node.{Node}
 use Rattle.node.specs.New.{newOf}
 use Rattle.node.specs.Frame.{addressedBy}
@@ -154,7 +154,7 @@ isRead (Values values) domain = eqb (domainIn values) domain
 
 abbrev pub isHeard : Link → List ℕ → Bool
 isHeard k bytes =
-    isRead (readOf bytes) (k .domain) && isGood (slaveSettings k .mode) (slaveSettings k .ids) bytes
+    isRead (readOf bytes) (k .domain) && isTaken (slaveSettings k .mode) (slaveSettings k .ids) bytes
 
 pub record Heard : Type 0 where
   pub bytes : List ℕ

@@ -49,7 +49,7 @@ use Rattle.history.specs.History.{
 use Rattle.history.specs.Demand.{
   Linked,
   Reads,
-  callOf,
+  callIn,
   momentOf,
   now,
   CopyIn,
@@ -131,9 +131,9 @@ carried-on k (atSlave c) h e before = (before, each-of-one k h (heardBy k c) e)
 -- ---- the test of each call
 abbrev fits : Link → Event → History → Bool
 fits k x h =
-    isCall (callOf x)
+    isCall (callIn x)
     && leb (now k h) (momentOf k x)
-    && isReading (readingOf (callOf x))
+    && isReading (readingOf (callIn x))
     && isCarried k x h
 
 abbrev pub allFit : Link → History → Bool
@@ -160,13 +160,13 @@ fair k linked reads [] e =
 fair k linked reads (x ∷ h) e =
     let told = both (allFit k h) (fits k x h) e in
     let four = both _ (isCarried k x h) (told .1) in
-    let three = both _ (isReading (readingOf (callOf x))) (four .0) in
-    let two = both (isCall (callOf x)) (leb (now k h) (momentOf k x)) (three .0) in
+    let three = both _ (isReading (readingOf (callIn x))) (four .0) in
+    let two = both (isCall (callIn x)) (leb (now k h) (momentOf k x)) (three .0) in
     let before = fair k linked reads h (told .0) in
     record {
       linked = linked;
       reads = reads;
-      calls = (before .calls, is-call (callOf x) (two .0));
+      calls = (before .calls, is-call (callIn x) (two .0));
       never-fall = (before .never-fall, leb-true _ _ (two .1));
       in-range = (before .in-range, three .1);
       carried = carried-on k x h (four .1) (before .carried);

@@ -11,7 +11,7 @@ use Rattle.settings.specs.declared.domain_settings.Security.the-variants.{Plain
 use Rattle.node_call.specs.Calls.{frame, read, set, cycle, confirm}
 use Rattle.history.specs.History.{Link, Event, atMaster, atSlave, History}
 use Rattle.history.specs.Demand.{Copy}
-use Rattle.history_day.specs.Settings.{copyOf, masterWith, slaveWith, absents, noIds, millis, ms}
+use Rattle.history_day.specs.Settings.{copyOf, masterFor, slaveFor, absents, noIds, millis, ms}
 
 -- ---- domain 5: P 1 s, C 200 ms, secured; J 1, F 300 ms, L 2.5 s, validated; the same DataIDs
 abbrev dayIds : DataIds
@@ -26,17 +26,17 @@ dayIds =
     }
 
 abbrev dayMaster : DomainSettings
-dayMaster = masterWith (millis 1000) (millis 200) Secured (record { 0 = 0x11; 1 = 0x22; 2 = 0x33 }) dayIds
+dayMaster = masterFor (millis 1000) (millis 200) Secured (record { 0 = 0x11; 1 = 0x22; 2 = 0x33 }) dayIds
 
 abbrev daySlave : DomainSettings
-daySlave = slaveWith 1 (millis 300) (millis 2500) Validated dayIds
+daySlave = slaveFor 1 (millis 300) (millis 2500) Validated dayIds
 
 -- ---- the master's node is master of domain 9 too, S 2; the slave's node is slave of domain 6 too
 abbrev otherMaster : DomainSettings
-otherMaster = masterWith (millis 1000) (millis 200) Plain (record { 0 = 0x44; 1 = 0x55; 2 = 0x66 }) noIds
+otherMaster = masterFor (millis 1000) (millis 200) Plain (record { 0 = 0x44; 1 = 0x55; 2 = 0x66 }) noIds
 
 abbrev otherSlave : DomainSettings
-otherSlave = slaveWith 2 (millis 300) (millis 2500) NotValidated noIds
+otherSlave = slaveFor 2 (millis 300) (millis 2500) NotValidated noIds
 
 -- ---- the slave's clock is 100 s ahead of the master's; E 15 s
 abbrev pub dayLink : Link

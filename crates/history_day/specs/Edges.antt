@@ -10,7 +10,7 @@ use Rattle.settings.specs.declared.domain_settings.Security.the-variants.{Plain
 use Rattle.node_call.specs.Calls.{frame, set, cycle, confirm}
 use Rattle.history.specs.History.{Link, Event, atMaster, atSlave, History}
 use Rattle.history.specs.Demand.{Copy}
-use Rattle.history_day.specs.Settings.{copyOf, masterWith, slaveWith, absents, noIds, millis, ms}
+use Rattle.history_day.specs.Settings.{copyOf, masterFor, slaveFor, absents, noIds, millis, ms}
 
 -- ---- domain 0, plain frames, P 100 ms, J 1, L 2 s, one clock; E, F and C in milliseconds
 abbrev edgeWith : (e f c : ℕ) → Link
@@ -19,12 +19,12 @@ edgeWith e f c =
       master =
           record {
             «syncs_per_cycle» = 1;
-            domains = put absents 0 (masterWith (millis 100) (millis c) Plain (record { 0 = 0; 1 = 0; 2 = 0 }) noIds);
+            domains = put absents 0 (masterFor (millis 100) (millis c) Plain (record { 0 = 0; 1 = 0; 2 = 0 }) noIds);
           };
       slave =
           record {
             «syncs_per_cycle» = 1;
-            domains = put absents 0 (slaveWith 1 (millis f) (millis 2000) NotValidated noIds);
+            domains = put absents 0 (slaveFor 1 (millis f) (millis 2000) NotValidated noIds);
           };
       domain = 0;
       masterAdds = 0;

@@ -5,6 +5,7 @@ use mathlib.Core.Path.{_≡_}
 use mathlib.Core.Bool.{true}
 use mathlib.Core.List.{List, [], _∷_, _++_}
 use Rattle.clock.specs.declared.base.TimeBase.{TimeBase}
+use Rattle.frame.specs.ByteTwo.{counters}
 use Rattle.clock.specs.declared.base.Held.the-variants.{Set}
 use Rattle.clock.specs.Reading.{spanOf}
 use Rattle.node_call.specs.Calls.{numberIn, answerTo}
@@ -74,12 +75,12 @@ HeldUnder Condition =
 
 -- ---- 16 sending periods reach E plus the one time, and "exceed" E plus the other
 pub record ReachFollowUp (k : Link) : Type 0 where
-  pub follow-up : k .e + slaveSettings k .«follow_up_time» ≤ 16 * masterSettings k .period
-  pub confirmation : k .e + masterSettings k .«confirmation_time» < 16 * masterSettings k .period
+  pub follow-up : k .e + slaveSettings k .«follow_up_time» ≤ counters * masterSettings k .period
+  pub confirmation : k .e + masterSettings k .«confirmation_time» < counters * masterSettings k .period
 
 pub record ReachConfirmation (k : Link) : Type 0 where
-  pub follow-up : k .e + slaveSettings k .«follow_up_time» < 16 * masterSettings k .period
-  pub confirmation : k .e + masterSettings k .«confirmation_time» ≤ 16 * masterSettings k .period
+  pub follow-up : k .e + slaveSettings k .«follow_up_time» < counters * masterSettings k .period
+  pub confirmation : k .e + masterSettings k .«confirmation_time» ≤ counters * masterSettings k .period
 
 -- ---- a time that the slave holds and that is of no SYNC
 pub record WrongHeld (k : Link) (h : History) (b : TimeBase) : Type 0 where

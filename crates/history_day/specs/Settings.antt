@@ -13,11 +13,12 @@ use Rattle.settings.specs.declared.domain_settings.Security.{Security}
 use Rattle.settings.specs.declared.domain_settings.Security.the-variants.{Plain}
 use Rattle.settings.specs.declared.domain_settings.UserBytes.{UserBytes}
 use Rattle.settings.specs.Domain.{absentHeld}
+use Rattle.settings.specs.Node.{places}
 use Rattle.history.specs.Demand.{Copy}
 
 -- ---- a master: P, C, plain or secured, its user bytes, its DataIDs
-abbrev pub masterWith : (p c : ℕ) → Security → UserBytes → DataIds → DomainSettings
-masterWith p c security user ids =
+abbrev pub masterFor : (p c : ℕ) → Security → UserBytes → DataIds → DomainSettings
+masterFor p c security user ids =
     record {
       «follow_up_time» = 0;
       «loss_time» = 0;
@@ -34,8 +35,8 @@ masterWith p c security user ids =
     }
 
 -- ---- a slave: J, F, L, its check mode, its DataIDs; leaps not checked
-abbrev pub slaveWith : (j f l : ℕ) → CheckMode → DataIds → DomainSettings
-slaveWith j f l mode ids =
+abbrev pub slaveFor : (j f l : ℕ) → CheckMode → DataIds → DomainSettings
+slaveFor j f l mode ids =
     record {
       «follow_up_time» = f;
       «loss_time» = l;
@@ -53,7 +54,7 @@ slaveWith j f l mode ids =
 
 -- ---- sixteen domains, all absent; DataIDs all 0
 abbrev pub absents : List DomainSettings
-absents = replicate 16 absentHeld
+absents = replicate places absentHeld
 
 abbrev pub noIds : DataIds
 noIds = absentHeld .ids

@@ -8,8 +8,12 @@ use Rattle.promise.proofs.Laws.{equation-only}
 use Rattle.clock.specs.declared.reading.VirtualLocalTime.{VirtualLocalTime}
 use Rattle.domain.specs.declared.Domain.{Domain}
 use Rattle.master_confirm.specs.declared.ConfirmStep.{ConfirmStep}
-use Rattle.master_confirm.specs.Confirm.{confirmOf}
+use Rattle.master_confirm.specs.Confirm.{confirmNumber, confirmOf}
+use Rattle.master_confirm.specs.declared.ConfirmAnswer.{ConfirmAnswer}
 
 pub confirm-only :
     (d : Domain) (t : VirtualLocalTime) (counter : ℕ) → OnlyOne (λ (r : ConfirmStep). r ≡ confirmOf d t counter)
 confirm-only d t counter = equation-only _
+
+pub number-only : (answer : ConfirmAnswer) → OnlyOne (λ (r : ℕ). r ≡ confirmNumber answer)
+number-only answer = equation-only _

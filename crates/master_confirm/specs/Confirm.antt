@@ -4,6 +4,7 @@ use mathlib.Core.Bool.{false}
 use Rattle.clock.specs.declared.reading.VirtualLocalTime.{VirtualLocalTime}
 use Rattle.refusal.specs.Numbers.{numberOf}
 use Rattle.domain.specs.declared.Domain.{Domain}
+use Rattle.domain.specs.Fields.{withSending}
 use Rattle.domain.specs.declared.Sending.the-variants.{Confirmed}
 use Rattle.master_follow.specs.declared.Follow.{Follow}
 use Rattle.master_follow.specs.declared.Follow.the-variants.{With, Refused as refused}
@@ -32,20 +33,7 @@ followedOf d counter ovs nanoseconds at =
             nanoseconds = nanoseconds;
             protection = protectionOf (d .settings .security) (d .settings .user .2);
           });
-      domain =
-          record {
-            settings = d .settings;
-            base = d .base;
-            pairing = d .pairing;
-            last = d .last;
-            sending = Confirmed at;
-            number = d .number;
-            user = d .user;
-            sgw = d .sgw;
-            leap = d .leap;
-            updates = d .updates;
-            «next_counter» = d .«next_counter»;
-          };
+      domain = withSending d (Confirmed at);
     }
 
 abbrev pub confirmAs : Follow → Domain → ℕ → ConfirmStep

@@ -10,11 +10,23 @@ use master_follow::follow_up;
 use master_rules::protection;
 use refusal::Refusal;
 ghost use mathlib.Core.Path.{_≡_};
-ghost use Rattle.master_confirm.specs.Confirm.{confirmOf};
+ghost use Rattle.master_confirm.specs.Confirm.{confirmNumber, confirmOf};
 
 pub enum ConfirmAnswer {
     Followed(Fup),
     Refused(Refusal),
+}
+
+impl ConfirmAnswer {
+    // The paper's number.
+    pub fn number(self) -> u8
+        ensures { λ r. ⌜ r ≡ confirmNumber self ⌝ }
+    {
+        match self {
+            ConfirmAnswer::Followed(_) => 0,
+            ConfirmAnswer::Refused(refusal) => refusal.number(),
+        }
+    }
 }
 
 pub struct ConfirmStep {

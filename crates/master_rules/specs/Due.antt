@@ -7,6 +7,7 @@ use Rattle.clock.specs.declared.time.GlobalTime.{GlobalTime}
 use Rattle.clock.specs.declared.base.Held.{Held}
 use Rattle.clock.specs.declared.base.Held.the-variants.{Unset, Set}
 use Rattle.clock.specs.Reading.{spanOf}
+use Rattle.clock.specs.Time.{mostSet}
 use Rattle.clock.specs.Base.{timeAt}
 use Rattle.settings.specs.declared.domain_settings.Role.{Role}
 use Rattle.settings.specs.declared.domain_settings.Role.the-variants.{Absent, Slave, Master}
@@ -29,7 +30,7 @@ hasWaited p (Confirmed at) t = leb p (spanOf at t)
 -- ---- "a domain is due if its base is set, its seconds at t are at most 4,294,967,295, and it has never
 -- sent or at least P has passed since it last sent"; g is the base's time at t
 abbrev pub dueWith : Role → (p : ℕ) → GlobalTime → Sending → VirtualLocalTime → Bool
-dueWith role p g sending t = leb (g .0) 4294967295 && isMaster role && hasWaited p sending t
+dueWith role p g sending t = leb (g .0) mostSet && isMaster role && hasWaited p sending t
 
 abbrev pub dueOf : Role → (p : ℕ) → Held → Sending → VirtualLocalTime → Due
 dueOf role p Unset sending t = No

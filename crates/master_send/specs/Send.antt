@@ -2,7 +2,9 @@
 use Prim.Native.Nat.{ℕ, _+_, _%_}
 use mathlib.Core.Bool.{Bool, true, false}
 use Rattle.clock.specs.declared.reading.VirtualLocalTime.{VirtualLocalTime}
+use Rattle.frame.specs.ByteTwo.{counters}
 use Rattle.domain.specs.declared.Domain.{Domain}
+use Rattle.domain.specs.Fields.{withSending, withNext}
 use Rattle.domain.specs.declared.Sending.the-variants.{Open}
 use Rattle.master_rules.specs.declared.due.Due.{Due}
 use Rattle.master_rules.specs.declared.due.Due.the-variants.{At, No}
@@ -30,25 +32,14 @@ sentOf d seconds nanoseconds t =
           Sent
           (record {
             domain = d .number;
-            counter = d .«next_counter» % 16;
+            counter = d .«next_counter» % counters;
             user0 = d .settings .user .0;
             seconds = seconds;
             protection = protectionOf (d .settings .security) (d .settings .user .1);
           });
       domain =
-          record {
-            settings = d .settings;
-            base = d .base;
-            pairing = d .pairing;
-            last = d .last;
-            sending = Open (d .«next_counter» % 16) seconds nanoseconds t;
-            number = d .number;
-            user = d .user;
-            sgw = d .sgw;
-            leap = d .leap;
-            updates = d .updates;
-            «next_counter» = (d .«next_counter» % 16 + 1) % 16;
-          };
+          withNext (withSending d (Open (d .«next_counter» % counters) seconds nanoseconds t))
+          ((d .«next_counter» % counters + 1) % counters);
     }
 
 abbrev pub sendAs : Due → Domain → VirtualLocalTime → SendStep

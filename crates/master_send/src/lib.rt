@@ -4,6 +4,7 @@
 use clock::VirtualLocalTime;
 use domain::Domain;
 use domain::Sending;
+use frame::COUNTERS;
 use frame::Sync;
 use master_rules::Due;
 use master_rules::due_at;
@@ -61,7 +62,7 @@ pub fn send(domain: Domain, t: VirtualLocalTime) -> SendStep
     let last = domain.last;
     let user = domain.user;
     let leap = domain.leap;
-    let counter = domain.next_counter % 16;
+    let counter = domain.next_counter % COUNTERS;
     let security = settings.security;
     let sent = settings.user;
     SendStep {
@@ -88,7 +89,7 @@ pub fn send(domain: Domain, t: VirtualLocalTime) -> SendStep
             sgw: domain.sgw,
             leap,
             updates: domain.updates,
-            next_counter: (counter + 1) % 16,
+            next_counter: (counter + 1) % COUNTERS,
         },
     }
 }

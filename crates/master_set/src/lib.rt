@@ -8,11 +8,23 @@ use domain::Domain;
 use domain::next_update;
 use refusal::Refusal;
 ghost use mathlib.Core.Path.{_≡_};
-ghost use Rattle.master_set.specs.Set.{setOf};
+ghost use Rattle.master_set.specs.Set.{setNumber, setOf};
 
 pub enum SetAnswer {
     Done,
     Refused(Refusal),
+}
+
+impl SetAnswer {
+    // The paper's number.
+    pub fn number(self) -> u8
+        ensures { λ r. ⌜ r ≡ setNumber self ⌝ }
+    {
+        match self {
+            SetAnswer::Done => 0,
+            SetAnswer::Refused(refusal) => refusal.number(),
+        }
+    }
 }
 
 pub struct SetStep {

@@ -7,7 +7,8 @@ use Rattle.clock.specs.declared.reading.VirtualLocalTime.{VirtualLocalTime}
 use Rattle.master_confirm.specs.declared.ConfirmAnswer.{ConfirmAnswer}
 use Rattle.call_confirm.specs.declared.ConfirmCall.{ConfirmCall}
 use Rattle.call_confirm.specs.ConfirmCall.{confirmCallOf, confirmBytes}
-use Rattle.round.specs.Records.{recordAt}
+use Rattle.settings.specs.Node.{places}
+use Rattle.domain.specs.Records.{recordAt}
 use Rattle.node.specs.declared.Node.{Node}
 use Rattle.node.specs.declared.confirms.NodeConfirm.{NodeConfirm}
 use Rattle.node.specs.Store.{storedIn}
@@ -17,12 +18,12 @@ confirmStored n at r = record { answer = r .answer; node = storedIn n at (r .dom
 
 abbrev pub nodeConfirmOf : Node → (domain : ℕ) → VirtualLocalTime → (counter length : ℕ) → NodeConfirm
 nodeConfirmOf n domain t counter length =
-    confirmStored n (domain % 16)
-    (confirmCallOf (recordAt (n .domains) (domain % 16)) (n .kept) domain t counter length)
+    confirmStored n (domain % places)
+    (confirmCallOf (recordAt (n .domains) (domain % places)) (n .kept) domain t counter length)
 
 -- ---- "On success bytes beyond those written stay."
 abbrev pub confirmedBytes : ConfirmAnswer → Node → (domain : ℕ) → List ℕ → List ℕ
-confirmedBytes answer n domain out = confirmBytes answer (recordAt (n .domains) (domain % 16) .settings .ids) out
+confirmedBytes answer n domain out = confirmBytes answer (recordAt (n .domains) (domain % places) .settings .ids) out
 
 -- ---- The promise: the call, and every lent byte.
 pub record NodeConfirmedIn

@@ -11,8 +11,8 @@ use Rattle.refusal.specs.declared.Refusal.the-variants.{Reading, NoRoom}
 use Rattle.admission.specs.Reading.{isGoodReading}
 use Rattle.round.specs.Round.{Gone, roundOf, pasted}
 use Rattle.node.specs.declared.Node.{Node}
-use Rattle.answers.specs.declared.CycleAnswer.{CycleAnswer}
-use Rattle.answers.specs.declared.CycleAnswer.the-variants.{Sent, Refused}
+use Rattle.node.specs.declared.cycles.CycleAnswer.{CycleAnswer}
+use Rattle.node.specs.declared.cycles.CycleAnswer.the-variants.{Sent, Refused}
 use Rattle.node.specs.declared.cycles.NodeCycle.{NodeCycle}
 
 -- ---- 12 "output buffer .. under 8 times S (main cycle)"

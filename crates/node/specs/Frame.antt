@@ -1,19 +1,19 @@
 -- Paper 01, "A slave's domain": a node's frame call. Assumes nothing.
 use Prim.Native.Nat.{ℕ, _%_}
 use mathlib.Core.List.{List}
-use lib.ListN.{getD}
 use Rattle.clock.specs.declared.reading.VirtualLocalTime.{VirtualLocalTime}
-use Rattle.frame.specs.ByteTwo.{domainOf}
+use Rattle.frame_read.specs.Read.{namedDomain}
+use Rattle.settings.specs.Node.{places}
 use Rattle.call_frame.specs.declared.FrameCall.{FrameCall}
 use Rattle.call_frame.specs.FrameCall.{frameCallOf}
-use Rattle.round.specs.Records.{recordAt}
+use Rattle.domain.specs.Records.{recordAt}
 use Rattle.node.specs.declared.Node.{Node}
 use Rattle.node.specs.declared.frames.NodeFrame.{NodeFrame}
 use Rattle.node.specs.Store.{storedIn}
 
--- ---- "domain in bits 7-4" of byte 2
+-- ---- the place of the domain that the bytes name
 abbrev pub addressedBy : List ℕ → ℕ
-addressedBy bytes = domainOf (getD bytes 2 0) % 16
+addressedBy bytes = namedDomain bytes % places
 
 abbrev pub frameStored : Node → (at : ℕ) → FrameCall → NodeFrame
 frameStored n at r = record { answer = r .answer; node = storedIn n at (r .domain) (r .kept) }

@@ -4,5 +4,6 @@ pub mod Store
 pub mod Frame
 pub mod Read
 pub mod Set
+pub mod CycleAnswer
 pub mod Cycle
 pub mod Confirm

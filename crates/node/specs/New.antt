@@ -7,7 +7,7 @@ use Rattle.settings.specs.declared.node_settings.NodeSettings.{NodeSettings}
 use Rattle.settings.specs.declared.node_settings.Verdict.{Verdict}
 use Rattle.settings.specs.declared.node_settings.Verdict.the-variants.{Good, Refused}
 use Rattle.settings.specs.Domain.{absentHeld}
-use Rattle.settings.specs.Node.{judgedOf}
+use Rattle.settings.specs.Node.{places, judgedOf}
 use Rattle.domain.specs.declared.Domain.{Domain}
 use Rattle.domain.specs.Fresh.{freshOf}
 use Rattle.node.specs.declared.Node.{Node}
@@ -26,7 +26,7 @@ freshNode s domains =
 -- ---- "Refused ones give, beside the number, such a node with all domains absent and S 1"
 abbrev pub newAs : Verdict → NodeSettings → NewNode
 newAs Good n = record { verdict = Good; node = freshNode (n .«syncs_per_cycle») (n .domains) }
-newAs (Refused refusal) n = record { verdict = Refused refusal; node = freshNode 1 (replicate 16 absentHeld) }
+newAs (Refused refusal) n = record { verdict = Refused refusal; node = freshNode 1 (replicate places absentHeld) }
 
 abbrev pub newOf : NodeSettings → NewNode
 newOf n = newAs (judgedOf n) n

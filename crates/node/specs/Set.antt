@@ -3,7 +3,8 @@ use Prim.Native.Nat.{ℕ, _%_}
 use Rattle.clock.specs.declared.reading.VirtualLocalTime.{VirtualLocalTime}
 use Rattle.call_set.specs.declared.SetCall.{SetCall}
 use Rattle.call_set.specs.SetCall.{setCallOf}
-use Rattle.round.specs.Records.{recordAt}
+use Rattle.settings.specs.Node.{places}
+use Rattle.domain.specs.Records.{recordAt}
 use Rattle.node.specs.declared.Node.{Node}
 use Rattle.node.specs.declared.sets.NodeSet.{NodeSet}
 use Rattle.node.specs.Store.{storedIn}
@@ -13,4 +14,4 @@ setStored n at r = record { answer = r .answer; node = storedIn n at (r .domain)
 
 abbrev pub nodeSetOf : Node → (domain : ℕ) → VirtualLocalTime → (seconds nanoseconds : ℕ) → NodeSet
 nodeSetOf n domain t s ns =
-    setStored n (domain % 16) (setCallOf (recordAt (n .domains) (domain % 16)) (n .kept) domain t s ns)
+    setStored n (domain % places) (setCallOf (recordAt (n .domains) (domain % places)) (n .kept) domain t s ns)

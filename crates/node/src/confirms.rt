@@ -21,7 +21,7 @@ pub fn on_confirmation(
 ) -> NodeConfirm
     ensures { λ r. ⌜ NodeConfirmedIn node domain t counter (now (out .entry)) r (now (out .exit)) ⌝ }
 {
-    let at = (domain % 16) as usize;
+    let at = (domain as usize) % Node::DOMAINS;
     let kept = node.kept;
     let record = node.domains[at];
     let call = confirm_call(record, kept, domain, t, counter, out);

@@ -1,12 +1,30 @@
 // A node's main cycle (paper 01, "A master's domain").
 use crate::Node;
 use admission::is_good_reading;
-use answers::CycleAnswer;
 use clock::VirtualLocalTime;
 use refusal::Refusal;
 use round::go_round;
 ghost use mathlib.Core.Path.{_≡_};
+ghost use Rattle.node.specs.CycleAnswer.{cycleNumber};
 ghost use Rattle.node.specs.Cycle.{CycledIn};
+
+// How many frames a main cycle wrote, or the number by which it is refused.
+pub enum CycleAnswer {
+    Sent(usize),
+    Refused(Refusal),
+}
+
+impl CycleAnswer {
+    // The paper's number.
+    pub fn number(self) -> u8
+        ensures { λ r. ⌜ r ≡ cycleNumber self ⌝ }
+    {
+        match self {
+            CycleAnswer::Sent(_) => 0,
+            CycleAnswer::Refused(refusal) => refusal.number(),
+        }
+    }
+}
 
 pub struct NodeCycle {
     pub answer: CycleAnswer,

@@ -2,10 +2,10 @@
 use crate::Node;
 use call_frame::frame_call;
 use clock::VirtualLocalTime;
-use slave_update::FrameAnswer;
-ghost use Prim.Native.Nat.{_<_};
+use frame_read::named_domain;
+use slave_answer::FrameAnswer;
 ghost use mathlib.Core.Path.{_≡_};
-ghost use Rattle.node.specs.Frame.{addressedBy, nodeFrameOf};
+ghost use Rattle.node.specs.Frame.{nodeFrameOf};
 
 pub struct NodeFrame {
     pub answer: FrameAnswer,
@@ -16,7 +16,7 @@ pub struct NodeFrame {
 pub fn on_frame(node: Node, t: VirtualLocalTime, bytes: &[u8]) -> NodeFrame
     ensures { λ r. ⌜ r ≡ nodeFrameOf node t (now (bytes .entry)) ⌝ }
 {
-    let at = addressed(bytes);
+    let at = (named_domain(bytes) as usize) % Node::DOMAINS;
     let kept = node.kept;
     let record = node.domains[at];
     let call = frame_call(record, kept, t, bytes);
@@ -29,16 +29,5 @@ pub fn on_frame(node: Node, t: VirtualLocalTime, bytes: &[u8]) -> NodeFrame
     NodeFrame {
         answer,
         node: after_node,
-    }
-}
-
-// The domain in byte 2: 0 where there is no such byte, which 2 refuses.
-fn addressed(bytes: &[u8]) -> usize
-    ensures { λ r. ⌜ r ≡ addressedBy (now (bytes .entry)) ⌝ }
-{
-    if bytes.len() < 3 {
-        0
-    } else {
-        (bytes[2] / 16 % 16) as usize
     }
 }

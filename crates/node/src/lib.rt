@@ -2,15 +2,16 @@
 // functions of their own crates (`node_frame`, `node_read`, `node_set`, `node_cycle`, `node_confirm`), state by
 // value in and out. Each looks a record up, calls it or goes round, and stores what comes back. No call has
 // a `requires`; each answers, or refuses by a number, and then gives the node back as it was.
-mod confirms;
-mod cycles;
-mod frames;
-mod reads;
-mod sets;
+pub mod confirms;
+pub mod cycles;
+pub mod frames;
+pub mod reads;
+pub mod sets;
 
 use clock::VirtualLocalTime;
 pub use confirms::NodeConfirm;
 pub use confirms::on_confirmation;
+pub use cycles::CycleAnswer;
 pub use cycles::NodeCycle;
 pub use cycles::on_main_cycle;
 use domain::Domain;
@@ -26,7 +27,7 @@ ghost use mathlib.Core.Path.{_≡_};
 ghost use Rattle.node.specs.New.{recordsOf, freshNode, newOf};
 
 pub struct Node {
-    pub domains: [Domain; 16],
+    pub domains: [Domain; Node::DOMAINS],
     // The greatest reading of a successful frame, set, main cycle or confirmation call.
     pub kept: VirtualLocalTime,
     // S, SYNC frames per main cycle.
@@ -42,7 +43,7 @@ pub struct NewNode {
 
 impl Node {
     // Domains 0 to 15.
-    pub const DOMAINS: usize = 16;
+    pub const DOMAINS: usize = NodeSettings::DOMAINS;
 
     // A fresh node; or 14, and one with all domains absent and S 1.
     pub fn new(settings: NodeSettings) -> NewNode
@@ -50,7 +51,7 @@ impl Node {
     {
         match settings.judge() {
             Verdict::Refused(refusal) => {
-                let absent = [DomainSettings::absent(); 16];
+                let absent = [DomainSettings::absent(); Node::DOMAINS];
                 NewNode {
                     verdict: Verdict::Refused(refusal),
                     node: fresh_node(1, absent),
@@ -67,7 +68,7 @@ impl Node {
     }
 }
 
-fn fresh_node(syncs_per_cycle: u8, settings: [DomainSettings; 16]) -> Node
+fn fresh_node(syncs_per_cycle: u8, settings: [DomainSettings; Node::DOMAINS]) -> Node
     ensures { λ r. ⌜ r ≡ freshNode «syncs_per_cycle» settings ⌝ }
 {
     Node {
@@ -78,10 +79,10 @@ fn fresh_node(syncs_per_cycle: u8, settings: [DomainSettings; 16]) -> Node
     }
 }
 
-fn fresh_records(settings: [DomainSettings; 16]) -> [Domain; 16]
+fn fresh_records(settings: [DomainSettings; Node::DOMAINS]) -> [Domain; Node::DOMAINS]
     ensures { λ r. ⌜ r ≡ recordsOf 0 settings ⌝ }
 {
-    let mut records = [Domain::new(0, DomainSettings::absent()); 16];
+    let mut records = [Domain::new(0, DomainSettings::absent()); Node::DOMAINS];
     let mut d = 0;
     while d < Node::DOMAINS {
         let one = settings[d];

@@ -1,6 +1,6 @@
 // A node's read call (paper 01, "Refusal numbers").
 use crate::Node;
-use answers::ReadAnswer;
+use call_read::ReadAnswer;
 use call_read::read_call;
 use clock::VirtualLocalTime;
 ghost use mathlib.Core.Path.{_≡_};
@@ -10,7 +10,7 @@ ghost use Rattle.node.specs.Read.{nodeReadOf};
 pub fn on_read(node: Node, domain: u8, t: VirtualLocalTime) -> ReadAnswer
     ensures { λ r. ⌜ r ≡ nodeReadOf node domain t ⌝ }
 {
-    let at = (domain % 16) as usize;
+    let at = (domain as usize) % Node::DOMAINS;
     let kept = node.kept;
     let record = node.domains[at];
     read_call(record, kept, domain, t)

@@ -21,7 +21,7 @@ pub fn on_set(
 ) -> NodeSet
     ensures { λ r. ⌜ r ≡ nodeSetOf node domain t seconds nanoseconds ⌝ }
 {
-    let at = (domain % 16) as usize;
+    let at = (domain as usize) % Node::DOMAINS;
     let kept = node.kept;
     let record = node.domains[at];
     let call = set_call(record, kept, domain, t, seconds, nanoseconds);

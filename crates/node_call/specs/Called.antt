@@ -4,11 +4,11 @@ use Prim.Native.Nat.{ℕ}
 use mathlib.Core.Path.{_≡_}
 use mathlib.Core.List.{List}
 use lib.ListN.{length}
-use Rattle.slave_update.specs.Answer.{frameNumber}
+use Rattle.slave_answer.specs.Answer.{frameNumber}
 use Rattle.master_set.specs.Set.{setNumber}
 use Rattle.master_confirm.specs.Confirm.{confirmNumber}
-use Rattle.answers.specs.Read.{readNumber}
-use Rattle.answers.specs.Cycle.{cycleNumber}
+use Rattle.call_read.specs.Answer.{readNumber}
+use Rattle.node.specs.CycleAnswer.{cycleNumber}
 use Rattle.node.specs.declared.Node.{Node}
 use Rattle.node.specs.Frame.{nodeFrameOf}
 use Rattle.node.specs.Read.{nodeReadOf}

@@ -4,18 +4,18 @@ use Prim.Native.Nat.{ℕ}
 use mathlib.Core.List.{List, [], _∷_}
 use lib.ListN.{length}
 use Rattle.clock.specs.declared.reading.VirtualLocalTime.{VirtualLocalTime}
-use Rattle.slave_update.specs.Answer.{frameNumber}
+use Rattle.slave_answer.specs.Answer.{frameNumber}
 use Rattle.master_set.specs.Set.{setNumber}
 use Rattle.master_confirm.specs.Confirm.{confirmNumber}
-use Rattle.answers.specs.declared.Shown.{Shown}
-use Rattle.answers.specs.Read.{readNumber, readValues}
+use Rattle.call_read.specs.declared.Shown.{Shown}
+use Rattle.call_read.specs.Answer.{readNumber, readValues}
 use Rattle.call_confirm.specs.ConfirmCall.{confirmBytes}
-use Rattle.round.specs.Records.{recordAt}
+use Rattle.domain.specs.Records.{recordAt}
 use Rattle.node.specs.declared.Node.{Node}
 use Rattle.node.specs.Frame.{nodeFrameOf}
 use Rattle.node.specs.Read.{nodeReadOf}
 use Rattle.node.specs.Set.{nodeSetOf}
-use Rattle.answers.specs.Cycle.{cycleNumber, cycleCount}
+use Rattle.node.specs.CycleAnswer.{cycleNumber, cycleCount}
 use Rattle.node.specs.Cycle.{nodeCycleOf, cycleBytes}
 use Rattle.node.specs.Confirm.{nodeConfirmOf, confirmedBytes}
 

@@ -1,22 +1,17 @@
 // Any call to a node (paper 01): which one, what it is given, and what it answers. The bytes of a frame and
 // the lent buffer stand beside it.
-use answers::CycleAnswer;
-use answers::ReadAnswer;
-use answers::confirm_number;
-use answers::cycle_number;
-use answers::frame_number;
-use answers::read_number;
-use answers::set_number;
+use call_read::ReadAnswer;
 use clock::VirtualLocalTime;
 use master_confirm::ConfirmAnswer;
 use master_set::SetAnswer;
+use node::CycleAnswer;
 use node::Node;
 use node::on_confirmation;
 use node::on_frame;
 use node::on_main_cycle;
 use node::on_read;
 use node::on_set;
-use slave_update::FrameAnswer;
+use slave_answer::FrameAnswer;
 ghost use mathlib.Core.Path.{_≡_};
 ghost use Rattle.node_call.specs.Called.{numberOf, CalledIn};
 
@@ -99,10 +94,10 @@ pub fn call_number(answer: CallAnswer) -> u8
     ensures { λ r. ⌜ r ≡ numberOf answer ⌝ }
 {
     match answer {
-        CallAnswer::Frame(frame) => frame_number(frame),
-        CallAnswer::Read(read) => read_number(read),
-        CallAnswer::Set(set) => set_number(set),
-        CallAnswer::Cycle(cycle) => cycle_number(cycle),
-        CallAnswer::Confirm(confirm) => confirm_number(confirm),
+        CallAnswer::Frame(frame) => frame.number(),
+        CallAnswer::Read(read) => read.number(),
+        CallAnswer::Set(set) => set.number(),
+        CallAnswer::Cycle(cycle) => cycle.number(),
+        CallAnswer::Confirm(confirm) => confirm.number(),
     }
 }

@@ -23,7 +23,7 @@ use Rattle.clock.specs.declared.base.TimeBase.{TimeBase}
 use Rattle.clock.specs.declared.base.Held.{Held}
 use Rattle.clock.specs.declared.base.Held.the-variants.{Unset, Set}
 use Rattle.clock.specs.Reading.{spanOf}
-use Rattle.clock.specs.Time.{nanosecondsOf, IsSet, IsReceived, IsRead}
+use Rattle.clock.specs.Time.{nanosecondsOf, mostSet, mostReceived, IsSet, IsReceived, IsRead}
 use Rattle.clock.specs.Base.{timeAt}
 use Rattle.clock.proofs.Laws.{time-exact, read-bound}
 use Rattle.refusal.specs.declared.Refusal.{Refusal}
@@ -43,8 +43,8 @@ use Rattle.master_follow.proofs.Laws.{ovs-bound}
 use Rattle.master_confirm.specs.declared.ConfirmAnswer.{ConfirmAnswer}
 use Rattle.master_confirm.specs.declared.ConfirmAnswer.the-variants.{Followed, Refused}
 use Rattle.master_confirm.specs.Confirm.{confirmNumber, confirmAs, confirmOf}
-use Rattle.answers.specs.declared.Shown.{Shown}
-use Rattle.answers.specs.declared.ReadAnswer.the-variants.{Time, Refused as not-shown}
+use Rattle.call_read.specs.declared.Shown.{Shown}
+use Rattle.call_read.specs.declared.ReadAnswer.the-variants.{Time, Refused as not-shown}
 use Rattle.call_read.specs.ReadCall.{readAs, readCallAs, readCallOf}
 use Rattle.call_confirm.specs.ConfirmCall.{withRoom, confirmAnswered, confirmCallAs, confirmCallOf}
 use Rattle.node_laws.specs.Good.{HeldWithin, SentWithin, RoleGood, RecordGood}
@@ -53,18 +53,18 @@ use Rattle.node_laws.proofs.Admitted.{Tested, by-admission, master-admi
 
 -- ---- the base, whatever the role
 
-wider : (kept : VirtualLocalTime) (b : Held) → HeldWithin 4294967295 kept b → HeldWithin 4294967298 kept b
+wider : (kept : VirtualLocalTime) (b : Held) → HeldWithin mostSet kept b → HeldWithin mostReceived kept b
 wider kept Unset h = h
 wider kept (Set b) h = (omega arith, h .1, h .2)
 
-held-as : (r : Role) (kept : VirtualLocalTime) (d : Domain) → RoleGood r kept d → HeldWithin 4294967298 kept (d .base)
-held-as Absent kept d g = subst (λ (x : Domain). HeldWithin 4294967298 kept (x .base)) (sym g) tt
+held-as : (r : Role) (kept : VirtualLocalTime) (d : Domain) → RoleGood r kept d → HeldWithin mostReceived kept (d .base)
+held-as Absent kept d g = subst (λ (x : Domain). HeldWithin mostReceived kept (x .base)) (sym g) tt
 held-as Slave kept d g = g .base
 held-as Master kept d g = wider kept (d .base) (g .base)
 
 module _ (i : ℕ) (kept : VirtualLocalTime) (d : Domain) (g : RecordGood i kept d) where
-  within : (b : TimeBase) → d .base ≡ Set b → HeldWithin 4294967298 kept (Set b)
-  within b e = subst (HeldWithin 4294967298 kept) e (held-as (d .settings .role) kept d (g .role))
+  within : (b : TimeBase) → d .base ≡ Set b → HeldWithin mostReceived kept (Set b)
+  within b e = subst (HeldWithin mostReceived kept) e (held-as (d .settings .role) kept d (g .role))
 
   pub base-within : (b : TimeBase) → d .base ≡ Set b → IsReceived (b .time)
   base-within b e = let h = within b e in record { whole = h .0; part = h .1 }
@@ -74,7 +74,7 @@ module _ (i : ℕ) (kept : VirtualLocalTime) (d : Domain) (g : RecordGood i kept
 
   pub set-within : d .settings .role ≡ Master → (b : TimeBase) → d .base ≡ Set b → IsSet (b .time)
   set-within r b e =
-      let h = subst (HeldWithin 4294967295 kept) e (subst (λ (r : Role). RoleGood r kept d) r (g .role) .base) in
+      let h = subst (HeldWithin mostSet kept) e (subst (λ (r : Role). RoleGood r kept d) r (g .role) .base) in
       record { whole = h .0; part = h .1 }
 
   -- ---- the time at a reading

@@ -30,12 +30,12 @@ use Rattle.master_rules.specs.declared.due.Due.the-variants.{At, No}
 use Rattle.master_send.specs.declared.SendAnswer.{SendAnswer}
 use Rattle.master_send.specs.declared.SendAnswer.the-variants.{Sent, NotDue}
 use Rattle.master_send.specs.Send.{isAt, dueIn, sendAs, sendOf}
-use Rattle.round.specs.Records.{recordAt}
+use Rattle.domain.specs.Records.{recordAt}
 use Rattle.round.specs.Turn.{turnOf, nextAfter}
 use Rattle.round.specs.Round.{framesBy, sentAfter, goes, roundOf, putAt, pasted}
 use Rattle.node.specs.declared.Node.{Node}
 use Rattle.node.specs.declared.cycles.NodeCycle.{NodeCycle}
-use Rattle.answers.specs.Cycle.{cycleNumber, cycleCount}
+use Rattle.node.specs.CycleAnswer.{cycleNumber, cycleCount}
 use Rattle.node.specs.Cycle.{isRoomFor, goneFrom, cycledBy, cycleRefused, cycleBytes}
 use Rattle.node_call.specs.Calls.{cycle, sends, answerTo, numberIn}
 use Rattle.node_laws.specs.Due.{dueOne, dueBelow, dueCount}

@@ -27,7 +27,7 @@ use Rattle.domain.specs.declared.LastSync.the-variants.{Unknown}
 use Rattle.domain.specs.declared.Sending.the-variants.{Never}
 use Rattle.domain.specs.declared.Leap.the-variants.{None}
 use Rattle.domain.specs.Fresh.{freshOf}
-use Rattle.round.specs.Records.{recordAt}
+use Rattle.domain.specs.Records.{recordAt}
 use Rattle.node.specs.New.{recordsOf, freshNode, newAs, newOf}
 use Rattle.node_laws.specs.Reachable.{IsSettings}
 use Rattle.node_laws.specs.Good.{RoleGood, RecordGood, Good}

@@ -6,7 +6,7 @@
 use Prim.Native.Nat.{ℕ}
 use mathlib.Core.Path.{_≡_, refl, _∙_}
 use mathlib.Core.List.{List, [], _∷_}
-use Rattle.round.specs.Records.{recordAt}
+use Rattle.domain.specs.Records.{recordAt}
 use Rattle.node.specs.declared.Node.{Node}
 use Rattle.node_call.specs.Calls.{Call, nodeAfter, nodeAfterAll, answerTo}
 use Rattle.node_laws.specs.Apart.{Own, AllElsewhere, keeping}

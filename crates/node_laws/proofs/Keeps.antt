@@ -23,9 +23,9 @@ use Rattle.admission.specs.declared.Needed.the-variants.{Master}
 use Rattle.domain.specs.declared.Domain.{Domain}
 use Rattle.slave_frame.proofs.Laws.{refusal-keeps-frame}
 use Rattle.slave_frame.specs.Step.{frameOf}
-use Rattle.slave_update.specs.Answer.{frameNumber}
-use Rattle.slave_update.specs.declared.answer.FrameAnswer.{FrameAnswer}
-use Rattle.slave_update.specs.declared.answer.FrameAnswer.the-variants.{
+use Rattle.slave_answer.specs.Answer.{frameNumber}
+use Rattle.slave_answer.specs.declared.FrameAnswer.{FrameAnswer}
+use Rattle.slave_answer.specs.declared.FrameAnswer.the-variants.{
   FirstTaken,
   Refused as not-taken,
   SyncTaken,

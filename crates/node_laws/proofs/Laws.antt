@@ -24,14 +24,14 @@ use Rattle.admission.specs.Reading.{isGoodReading}
 use Rattle.domain.specs.declared.Domain.{Domain}
 use Rattle.master_rules.specs.Due.{isMaster, dueOf}
 use Rattle.master_send.specs.Send.{sendAs}
-use Rattle.round.specs.Records.{recordAt}
+use Rattle.domain.specs.Records.{recordAt}
 use Rattle.round.specs.Turn.{turnOf, nextAfter}
 use Rattle.round.specs.Round.{sentAfter, goes}
 use Rattle.node.specs.declared.Node.{Node}
 use Rattle.node.specs.declared.cycles.NodeCycle.{NodeCycle}
 use Rattle.node.specs.Store.{storedIn}
 use Rattle.node.specs.Frame.{addressedBy}
-use Rattle.answers.specs.Cycle.{cycleNumber, cycleCount}
+use Rattle.node.specs.CycleAnswer.{cycleNumber, cycleCount}
 use Rattle.node.specs.Cycle.{isRoomFor, nodeCycleOf, cycleBytes}
 use Rattle.node_call.specs.Calls.{
   Call,

@@ -39,7 +39,7 @@ use Rattle.master_confirm.specs.Confirm.{confirmAs, confirmOf}
 use Rattle.call_set.specs.declared.SetCall.{SetCall}
 use Rattle.call_set.specs.SetCall.{setStepped, setCallAs, setCallOf}
 use Rattle.call_confirm.specs.ConfirmCall.{withRoom, confirmAnswered, confirmCallAs, confirmCallOf}
-use Rattle.node_laws.specs.Good.{Blank, IsSet, SentWithin, MasterGood, RoleGood, RecordGood}
+use Rattle.node_laws.specs.Good.{Blank, BaseSet, SentWithin, MasterGood, RoleGood, RecordGood}
 use Rattle.node_laws.proofs.Later.{later}
 use Rattle.node_laws.proofs.Told.{both, either-told}
 use Rattle.node_laws.proofs.Admitted.{by-admission, master-admitted}
@@ -54,7 +54,7 @@ as-master i kept d e g = subst (λ (r : Role). RoleGood r kept d) e (g .role)
 -- ---- set
 
 still-set :
-    (kept : VirtualLocalTime) (base base′ : Held) (next : ℕ) (s : Sending) → IsSet base′ →
+    (kept : VirtualLocalTime) (base base′ : Held) (next : ℕ) (s : Sending) → BaseSet base′ →
     SentWithin kept base next s → SentWithin kept base′ next s
 still-set kept base base′ next Never is h = h
 still-set kept base base′ next (Open counter seconds nanoseconds at) is h = (is, h .1, h .2, h .3, h .4, h .5)
@@ -194,7 +194,7 @@ module _ (i : ℕ) (t : VirtualLocalTime) (d : Domain) (e : d .settings .role �
   sent-good b is fits =
       let counter = d .«next_counter» % 16 in
       sending-good (Open counter (timeAt b t .0) (timeAt b t .1) t) ((counter + 1) % 16) (
-        subst IsSet (sym is) tt,
+        subst BaseSet (sym is) tt,
         omega arith,
         refl,
         omega arith,

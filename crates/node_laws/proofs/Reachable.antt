@@ -33,10 +33,10 @@ use Rattle.refusal.specs.declared.Refusal.the-variants.{Ovs}
 use Rattle.settings.specs.declared.domain_settings.Role.the-variants.{Slave}
 use Rattle.master_confirm.specs.declared.ConfirmAnswer.the-variants.{Followed, Refused}
 use Rattle.admission.specs.Reading.{isGoodReading}
-use Rattle.answers.specs.declared.Shown.{Shown}
-use Rattle.answers.specs.declared.ReadAnswer.the-variants.{Time}
+use Rattle.call_read.specs.declared.Shown.{Shown}
+use Rattle.call_read.specs.declared.ReadAnswer.the-variants.{Time}
 use Rattle.domain.specs.declared.Domain.{Domain}
-use Rattle.round.specs.Records.{recordAt}
+use Rattle.domain.specs.Records.{recordAt}
 use Rattle.node.specs.declared.Node.{Node}
 use Rattle.node.specs.declared.cycles.NodeCycle.{NodeCycle}
 use Rattle.node.specs.Store.{storedIn}

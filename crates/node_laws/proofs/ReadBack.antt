@@ -52,7 +52,7 @@ use Rattle.master_confirm.specs.declared.ConfirmAnswer.{ConfirmAnswer}
 use Rattle.master_confirm.specs.declared.ConfirmAnswer.the-variants.{Followed, Refused}
 use Rattle.master_confirm.specs.Confirm.{confirmNumber, confirmAs, confirmOf}
 use Rattle.call_confirm.specs.ConfirmCall.{withRoom, confirmAnswered, confirmCallAs, confirmCallOf}
-use Rattle.round.specs.Records.{recordAt}
+use Rattle.domain.specs.Records.{recordAt}
 use Rattle.round.specs.Round.{roundOf}
 use Rattle.node.specs.declared.Node.{Node}
 use Rattle.node.specs.Cycle.{goneFrom}

@@ -25,7 +25,7 @@ use Rattle.master_send.specs.declared.SendAnswer.{SendAnswer}
 use Rattle.master_send.specs.declared.SendAnswer.the-variants.{Sent, NotDue}
 use Rattle.master_send.specs.declared.SendStep.{SendStep}
 use Rattle.master_send.specs.Send.{sendOf}
-use Rattle.round.specs.Records.{recordAt}
+use Rattle.domain.specs.Records.{recordAt}
 use Rattle.round.specs.Turn.{turnOf, nextAfter}
 use Rattle.round.specs.Round.{framesBy, sentAfter, goes, roundOf}
 use Rattle.node_laws.specs.Good.{RecordGood}

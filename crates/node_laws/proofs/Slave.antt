@@ -8,7 +8,7 @@ use mathlib.Core.Path.{_≡_, refl, sym, subst}
 use mathlib.Core.Bool.{true}
 use mathlib.Core.List.{List, [], _∷_}
 use native.Mathlib.Omega.{arith}
-use borrow.Author.Tests.{leb-true, ltb-false}
+use borrow.Author.Tests.{leb-true, not-false}
 use lib.Dec.{eqb}
 use lib.ListN.{length, getD}
 use Rattle.promise.proofs.Laws.{either}
@@ -32,7 +32,7 @@ use Rattle.frame_read.specs.declared.Read.{Read}
 use Rattle.frame_read.specs.declared.Read.the-variants.{Values, LengthNot8, NoSuchType}
 use Rattle.frame.specs.Types.{typeOf}
 use Rattle.frame_read.specs.Read.{wordOf, valuesOf, readOf}
-use Rattle.frame_check.specs.Check.{isGood}
+use Rattle.frame_check.specs.Check.{isTaken}
 use Rattle.refusal.specs.Numbers.{numberOf}
 use Rattle.settings.specs.declared.domain_settings.Role.{Role}
 use Rattle.settings.specs.declared.domain_settings.Role.the-variants.{Absent, Slave, Master}
@@ -41,7 +41,8 @@ use Rattle.admission.specs.declared.frames.FrameAdmission.{FrameAdmission}
 use Rattle.admission.specs.declared.frames.FrameAdmission.the-variants.{Admitted, Refused}
 use Rattle.admission.specs.Reading.{isGoodReading}
 use Rattle.admission.specs.Admission.{isIn, isFor}
-use Rattle.admission.specs.FrameAdmission.{domainIn, readFor, frameAdmitted}
+use Rattle.frame.specs.Values.{domainIn}
+use Rattle.admission.specs.FrameAdmission.{readFor, frameAdmitted}
 use Rattle.domain.specs.declared.Domain.{Domain}
 use Rattle.domain.specs.declared.Pair.{Pair}
 use Rattle.domain.specs.declared.Pairing.{Pairing}
@@ -51,14 +52,14 @@ use Rattle.domain.specs.declared.LastSync.the-variants.{Seen}
 use Rattle.domain.specs.declared.Leap.{Leap}
 use Rattle.slave_pair.specs.declared.joining.Joined.{Joined}
 use Rattle.slave_pair.specs.declared.joining.Joined.the-variants.{With, Refused as not-joined}
-use Rattle.slave_update.specs.Answer.{frameNumber}
+use Rattle.slave_answer.specs.Answer.{frameNumber}
 use Rattle.slave_pair.specs.Join.{isOld, isOther, isAbove, joinedOf}
 use Rattle.slave_update.specs.Update.{newBase, updateOf}
-use Rattle.slave_sync.specs.declared.FrameStep.{FrameStep}
+use Rattle.slave_answer.specs.declared.FrameStep.{FrameStep}
 use Rattle.slave_sync.specs.Sync.{withPair, takesSync, syncOf}
 use Rattle.slave_fup.specs.Fup.{updatedOf, fupAs}
 use Rattle.slave_frame.specs.Step.{kindOf, frameOf}
-use Rattle.answers.specs.Kept.{keptAfter}
+use Rattle.admission.specs.Kept.{keptAfter}
 use Rattle.call_frame.specs.FrameCall.{frameCallAs, frameCallOf}
 use Rattle.node_laws.specs.Reachable.{AreBytes}
 use Rattle.node_laws.specs.Good.{
@@ -190,7 +191,7 @@ joined most last (Open p) t f h =
     let P = JoinedWith last f in
     either P (isOld most p t) tt
     (either P (isOther p f) tt
-    (either-told P (isAbove f) (λ e. tt) (λ e. (h .0, h .1, ltb-false _ _ e))))
+    (either-told P (isAbove f) (λ e. tt) (λ e. (h .0, h .1, leb-true _ _ (not-false _ e)))))
 
 module _ (d : Domain) (t : VirtualLocalTime) (p : Pair) (f : Fup) (leap : Leap)
     (j : JoinedWith (d .last) f (With p)) where
@@ -272,7 +273,7 @@ module _ (i : ℕ) (kept t : VirtualLocalTime) (d : Domain) (g : RecordGood i ke
 
     frame-step : (bytes : List ℕ) (values : Frame) → Carried values → StepGood (frameOf d t bytes values)
     frame-step bytes values c =
-        either StepGood (isGood (d .settings .mode) (d .settings .ids) bytes) (kind-step values c) g
+        either StepGood (isTaken (d .settings .mode) (d .settings .ids) bytes) (kind-step values c) g
 
   -- ---- the call
 

@@ -12,7 +12,7 @@ use Rattle.clock.specs.declared.reading.VirtualLocalTime.{VirtualLocalTime}
 use Rattle.frame.specs.declared.values.Fup.{Fup}
 use Rattle.frame.specs.declared.values.Frame.{Frame}
 use Rattle.frame.specs.declared.values.Frame.the-variants.{Sync as sync, Fup as fup}
-use Rattle.frame_check.specs.Check.{isGood}
+use Rattle.frame_check.specs.Check.{isTaken}
 use Rattle.admission.specs.declared.Admission.{Admission}
 use Rattle.admission.specs.declared.Admission.the-variants.{Admitted, Refused}
 use Rattle.admission.specs.declared.Needed.the-variants.{Master}
@@ -25,7 +25,7 @@ use Rattle.domain.specs.declared.Domain.{Domain}
 use Rattle.slave_pair.specs.declared.joining.Joined.{Joined}
 use Rattle.slave_pair.specs.declared.joining.Joined.the-variants.{With, Refused as not-joined}
 use Rattle.slave_pair.specs.Join.{joinedOf}
-use Rattle.slave_sync.specs.declared.FrameStep.{FrameStep}
+use Rattle.slave_answer.specs.declared.FrameStep.{FrameStep}
 use Rattle.slave_sync.specs.Sync.{takesSync}
 use Rattle.slave_fup.specs.Fup.{fupAs}
 use Rattle.slave_frame.specs.Step.{kindOf}
@@ -43,7 +43,7 @@ use Rattle.master_confirm.specs.Confirm.{confirmAs, confirmOf}
 use Rattle.call_frame.specs.FrameCall.{frameCallAs}
 use Rattle.call_set.specs.SetCall.{setCallAs}
 use Rattle.call_confirm.specs.ConfirmCall.{withRoom, confirmAnswered, confirmCallAs}
-use Rattle.round.specs.Records.{recordAt}
+use Rattle.domain.specs.Records.{recordAt}
 use Rattle.round.specs.Round.{sentAfter, goes}
 use Rattle.round.specs.Turn.{turnOf, nextAfter}
 use Rattle.node.specs.declared.Node.{Node}
@@ -51,11 +51,11 @@ use Rattle.node.specs.Frame.{addressedBy}
 use Rattle.node.specs.declared.cycles.NodeCycle.{NodeCycle}
 use Rattle.node.specs.Cycle.{isRoomFor}
 use Rattle.node_call.specs.Calls.{Call, frame, read, set, cycle, confirm, nodeAfter, nodeAfterAll}
-use Rattle.node_laws.specs.Good.{IsSet}
+use Rattle.node_laws.specs.Good.{BaseSet}
 
 -- ---- what a step keeps of a record
 abbrev Stays : Domain → Domain → Type 0
-Stays d after = IsSet (d .base) → IsSet (after .base)
+Stays d after = BaseSet (d .base) → BaseSet (after .base)
 
 -- ---- a call on one record
 
@@ -73,7 +73,7 @@ module _ (d : Domain) (kept t : VirtualLocalTime) where
   frame-stays : (a : FrameAdmission) (bytes : List ℕ) → Stays d (frameCallAs a d kept t bytes .domain)
   frame-stays (refused refusal) bytes = λ h. h
   frame-stays (admitted values) bytes =
-      either (λ (r : FrameStep). Stays d (r .domain)) (isGood (d .settings .mode) (d .settings .ids) bytes)
+      either (λ (r : FrameStep). Stays d (r .domain)) (isTaken (d .settings .mode) (d .settings .ids) bytes)
       (kind-stays values) (λ h. h)
 
   -- ---- a set
@@ -139,7 +139,7 @@ goes-stays (suc k) at sent most t ds next i h =
 
 pub base-stays :
     (n : Node) (c : Call) (i : ℕ) →
-    IsSet (recordAt (n .domains) i .base) → IsSet (recordAt (nodeAfter n c .domains) i .base)
+    BaseSet (recordAt (n .domains) i .base) → BaseSet (recordAt (nodeAfter n c .domains) i .base)
 base-stays n (frame t bytes) i =
     let d = recordAt (n .domains) (addressedBy bytes) in
     put-stays (n .domains) i (addressedBy bytes) _
@@ -162,6 +162,6 @@ base-stays n (confirm domain t counter out) i =
 
 pub bases-stay :
     (n : Node) (cs : List Call) (i : ℕ) →
-    IsSet (recordAt (n .domains) i .base) → IsSet (recordAt (nodeAfterAll n cs .domains) i .base)
+    BaseSet (recordAt (n .domains) i .base) → BaseSet (recordAt (nodeAfterAll n cs .domains) i .base)
 bases-stay n [] i h = h
 bases-stay n (c ∷ rest) i h = bases-stay (nodeAfter n c) rest i (base-stays n c i h)

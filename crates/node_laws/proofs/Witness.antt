@@ -15,7 +15,7 @@ use lib.Dec.{ltb}
 use borrow.Author.Tests.{ltb-true}
 use Rattle.clock.specs.declared.base.Held.the-variants.{Set}
 use Rattle.settings.specs.declared.domain_settings.Role.the-variants.{Slave}
-use Rattle.round.specs.Records.{recordAt}
+use Rattle.domain.specs.Records.{recordAt}
 use Rattle.round.specs.Round.{goes}
 use Rattle.node.specs.declared.Node.{Node}
 use Rattle.node.specs.New.{newOf}

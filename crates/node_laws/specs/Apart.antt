@@ -6,7 +6,8 @@ use mathlib.Core.Bool.{false}
 use mathlib.Core.List.{List, [], _∷_}
 use Rattle.clock.specs.declared.reading.VirtualLocalTime.{VirtualLocalTime}
 use Rattle.master_rules.specs.Due.{isMaster}
-use Rattle.round.specs.Records.{recordAt}
+use Rattle.settings.specs.Node.{places}
+use Rattle.domain.specs.Records.{recordAt}
 use Rattle.node.specs.declared.Node.{Node}
 use Rattle.node.specs.Frame.{addressedBy}
 use Rattle.node_call.specs.Calls.{Call, frame, read, set, cycle, confirm, nodeAfter}
@@ -15,17 +16,17 @@ use Rattle.node_call.specs.Calls.{Call, frame, read, set, cycle, confirm, nodeA
 abbrev pub Elsewhere : Node → Call → (i : ℕ) → Type 0
 Elsewhere n (frame t bytes) i = i ≡ addressedBy bytes → ⊥
 Elsewhere n (read domain t) i = Unit {0}
-Elsewhere n (set domain t s ns) i = i ≡ domain % 16 → ⊥
+Elsewhere n (set domain t s ns) i = i ≡ domain % places → ⊥
 Elsewhere n (cycle t out) i = isMaster (recordAt (n .domains) i .settings .role) ≡ false
-Elsewhere n (confirm domain t counter out) i = i ≡ domain % 16 → ⊥
+Elsewhere n (confirm domain t counter out) i = i ≡ domain % places → ⊥
 
 -- ---- The call is for the domain at place i.
 abbrev pub Own : Call → (i : ℕ) → Type 0
 Own (frame t bytes) i = addressedBy bytes ≡ i
-Own (read domain t) i = domain % 16 ≡ i
-Own (set domain t s ns) i = domain % 16 ≡ i
+Own (read domain t) i = domain % places ≡ i
+Own (set domain t s ns) i = domain % places ≡ i
 Own (cycle t out) i = ⊥
-Own (confirm domain t counter out) i = domain % 16 ≡ i
+Own (confirm domain t counter out) i = domain % places ≡ i
 
 -- ---- Calls one after another, none of them for the domain at place i.
 abbrev pub AllElsewhere : Node → List Call → (i : ℕ) → Type 0

@@ -7,6 +7,7 @@ use lib.ListN.{length}
 use Rattle.clock.specs.declared.reading.VirtualLocalTime.{VirtualLocalTime}
 use Rattle.frame.specs.declared.values.Sync.{Sync}
 use Rattle.frame.specs.declared.values.Frame.the-variants.{Sync as sync}
+use Rattle.frame.specs.ByteTwo.{counters}
 use Rattle.frame_read.specs.declared.Read.the-variants.{Values}
 use Rattle.frame_read.specs.Read.{readOf}
 use Rattle.frame_write.specs.Write.{bytesOf}
@@ -15,7 +16,7 @@ use Rattle.domain.specs.declared.Sending.{Sending}
 use Rattle.domain.specs.declared.Sending.the-variants.{Never, Open, Confirmed}
 use Rattle.master_send.specs.declared.SendAnswer.the-variants.{Sent}
 use Rattle.master_send.specs.Send.{sendOf}
-use Rattle.round.specs.Records.{recordAt}
+use Rattle.domain.specs.Records.{recordAt}
 
 -- ---- each frame of a list; all of them one after another; eight bytes
 abbrev pub Each : (List ℕ → Type 0) → List (List ℕ) → Type 0
@@ -37,8 +38,8 @@ pub record SyncBack (ds : List Domain) (t : VirtualLocalTime) (frame : List ℕ)
   pub bytes : frame ≡ bytesOf (recordAt ds place .settings .ids) (sync values)
   pub back : readOf frame ≡ Values (sync values)
 
--- ---- an open SYNC's counter is below 16
+-- ---- an open SYNC's counter is one
 abbrev pub OpenBelow : Sending → Type 0
 OpenBelow Never = Unit {0}
-OpenBelow (Open counter seconds nanoseconds at) = counter < 16
+OpenBelow (Open counter seconds nanoseconds at) = counter < counters
 OpenBelow (Confirmed at) = Unit {0}

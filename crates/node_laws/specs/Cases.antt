@@ -5,7 +5,7 @@ use mathlib.Core.List.{List, [], _∷_}
 use lib.ListN.{replicate}
 use Rattle.clock.specs.declared.reading.VirtualLocalTime.{VirtualLocalTime}
 use Rattle.settings.specs.declared.node_settings.NodeSettings.{NodeSettings}
-use Rattle.answers.specs.declared.Shown.{Shown}
+use Rattle.call_read.specs.declared.Shown.{Shown}
 use Rattle.node.specs.New.{newOf}
 use Rattle.bench_settings.specs.Bench.{benchWith}
 use Rattle.node_call.specs.Calls.{

@@ -1,16 +1,19 @@
 -- What holds of every node that is reachable: one record for a domain in each role, one for the node. A
 -- later request adds a field. Assumes nothing.
-use Prim.Native.Nat.{ℕ, _+_, _%_, _≤_, _<_}
+use Prim.Native.Nat.{ℕ, _+_, _%_, _^_, _≤_, _<_}
 use mathlib.Core.Path.{_≡_}
 use mathlib.Core.Bool.{true, false}
 use lib.ListN.{length}
 use Rattle.clock.specs.declared.reading.VirtualLocalTime.{VirtualLocalTime}
 use Rattle.clock.specs.declared.base.Held.{Held}
 use Rattle.clock.specs.declared.base.Held.the-variants.{Unset, Set}
+use Rattle.clock.specs.Time.{mostNanoseconds, mostSet, mostReceived}
+use Rattle.frame.specs.ByteTwo.{counters}
 use Rattle.settings.specs.declared.domain_settings.Role.{Role}
 use Rattle.settings.specs.declared.domain_settings.Role.the-variants.{Absent, Slave, Master}
 use Rattle.settings.specs.Ranges.{isGood}
 use Rattle.settings.specs.Domain.{heldOf, absentHeld}
+use Rattle.settings.specs.Node.{places}
 use Rattle.domain.specs.declared.Domain.{Domain}
 use Rattle.domain.specs.declared.Pairing.{Pairing}
 use Rattle.domain.specs.declared.Pairing.the-variants.{Waiting, Open}
@@ -20,22 +23,22 @@ use Rattle.domain.specs.declared.Sending.{Sending}
 use Rattle.domain.specs.declared.Sending.the-variants.{Never, Open as open-sync, Confirmed}
 use Rattle.domain.specs.declared.Leap.the-variants.{None}
 use Rattle.domain.specs.Fresh.{freshOf}
-use Rattle.round.specs.Records.{recordAt}
+use Rattle.domain.specs.Records.{recordAt}
 use Rattle.node.specs.declared.Node.{Node}
 
 -- ---- a held time: seconds at most so many, nanoseconds in range, its reading at most the kept one
 abbrev pub HeldWithin : (most : ℕ) (kept : VirtualLocalTime) → Held → Type 0
 HeldWithin most kept Unset = Unit {0}
-HeldWithin most kept (Set b) = (b .time .0 ≤ most) × (b .time .1 ≤ 999999999) × (b .at .0 ≤ kept .0)
+HeldWithin most kept (Set b) = (b .time .0 ≤ most) × (b .time .1 ≤ mostNanoseconds) × (b .at .0 ≤ kept .0)
 
 -- ---- the SYNC last accepted, and the open pair, which is that SYNC's
 abbrev pub LastWithin : (kept : VirtualLocalTime) → LastSync → Type 0
 LastWithin kept Unknown = Unit {0}
-LastWithin kept (Seen counter at) = (counter < 16) × (at .0 ≤ kept .0)
+LastWithin kept (Seen counter at) = (counter < counters) × (at .0 ≤ kept .0)
 
 abbrev pub PairWithin : LastSync → Pairing → Type 0
 PairWithin last Waiting = Unit {0}
-PairWithin last (Open p) = (p .seconds < 4294967296) × (last ≡ Seen (p .counter) (p .at))
+PairWithin last (Open p) = (p .seconds < 2 ^ 32) × (last ≡ Seen (p .counter) (p .at))
 
 -- ---- a slave's base is of a SYNC that was accepted, the last one or one before
 abbrev pub BaseBefore : LastSync → Held → Type 0
@@ -49,20 +52,20 @@ Blank (Set b) d = Unit {0}
 Blank Unset d = (d .updates ≡ 0) × (d .user ≡ record { 0 = 0; 1 = 0; 2 = 0 }) × (d .sgw ≡ false) × (d .leap ≡ None)
 
 -- ---- what was sent last: from a base that is set, with the counter before the next one
-abbrev pub IsSet : Held → Type 0
-IsSet Unset = ⊥
-IsSet (Set b) = Unit {0}
+abbrev pub BaseSet : Held → Type 0
+BaseSet Unset = ⊥
+BaseSet (Set b) = Unit {0}
 
 abbrev pub SentWithin : (kept : VirtualLocalTime) → Held → (next : ℕ) → Sending → Type 0
 SentWithin kept base next Never = next ≡ 0
 SentWithin kept base next (open-sync counter seconds nanoseconds at) =
-    IsSet base × (counter < 16) × (next ≡ (counter + 1) % 16) × (seconds < 4294967296)
-    × (nanoseconds ≤ 999999999) × (at .0 ≤ kept .0)
-SentWithin kept base next (Confirmed at) = IsSet base × (next < 16) × (at .0 ≤ kept .0)
+    BaseSet base × (counter < counters) × (next ≡ (counter + 1) % counters) × (seconds < 2 ^ 32)
+    × (nanoseconds ≤ mostNanoseconds) × (at .0 ≤ kept .0)
+SentWithin kept base next (Confirmed at) = BaseSet base × (next < counters) × (at .0 ≤ kept .0)
 
 -- ---- a record in each role; what the other role adds is fresh
 pub record SlaveGood (kept : VirtualLocalTime) (d : Domain) : Type 0 where
-  pub base : HeldWithin 4294967298 kept (d .base)
+  pub base : HeldWithin mostReceived kept (d .base)
   pub last : LastWithin kept (d .last)
   pub pair : PairWithin (d .last) (d .pairing)
   pub order : BaseBefore (d .last) (d .base)
@@ -71,7 +74,7 @@ pub record SlaveGood (kept : VirtualLocalTime) (d : Domain) : Type 0 where
   pub next : d .«next_counter» ≡ 0
 
 pub record MasterGood (kept : VirtualLocalTime) (d : Domain) : Type 0 where
-  pub base : HeldWithin 4294967295 kept (d .base)
+  pub base : HeldWithin mostSet kept (d .base)
   pub sent : SentWithin kept (d .base) (d .«next_counter») (d .sending)
   pub blank : Blank (d .base) d
   pub waiting : d .pairing ≡ Waiting
@@ -91,8 +94,8 @@ pub record RecordGood (i : ℕ) (kept : VirtualLocalTime) (d : Domain) : Type 0 
   pub role : RoleGood (d .settings .role) kept d
 
 pub record Good (n : Node) : Type 0 where
-  pub sixteen : length (n .domains) ≡ 16
+  pub sixteen : length (n .domains) ≡ places
   pub kept : n .kept .0 ≤ 1000000000000000000
   pub syncs : (1 ≤ n .«syncs_per_cycle») × (n .«syncs_per_cycle» ≤ 16)
-  pub round : n .round < 16
-  pub records : (i : ℕ) → i < 16 → RecordGood i (n .kept) (recordAt (n .domains) i)
+  pub round : n .round < places
+  pub records : (i : ℕ) → i < places → RecordGood i (n .kept) (recordAt (n .domains) i)

@@ -15,7 +15,7 @@ use Rattle.master_send.specs.declared.SendAnswer.{SendAnswer}
 use Rattle.master_send.specs.declared.SendAnswer.the-variants.{Sent, NotDue}
 use Rattle.round.specs.Turn.{turnOf, nextAfter}
 use Rattle.round.specs.declared.Round.{Round}
-use Rattle.round.specs.Records.{recordAt}
+use Rattle.domain.specs.Records.{recordAt}
 
 -- ---- what a turn sends: its frame, or nothing
 abbrev pub framesBy : SendAnswer → DataIds → List (List ℕ)

@@ -1,10 +1,8 @@
 // The main cycle's round (paper 01, "A master's domain"): sixteen turns over sixteen records, from the one
 // after that served last. Each due domain sends until as many have sent as a cycle may; frames are
 // written one after another at a running offset, and bytes beyond them stay.
-mod turns;
+pub mod turns;
 
-use crate::turns::next_after;
-use crate::turns::turn;
 use clock::VirtualLocalTime;
 use domain::Domain;
 use frame::DataIds;

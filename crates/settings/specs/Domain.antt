@@ -1,5 +1,6 @@
 -- Paper 01, "Settings of a node": the settings of one domain. Assumes nothing.
 use lib.ListN.{replicate}
+use Rattle.frame.specs.ByteTwo.{counters}
 use Rattle.frame_check.specs.declared.CheckMode.the-variants.{Validated}
 use Rattle.settings.specs.declared.domain_settings.DomainSettings.{DomainSettings}
 use Rattle.settings.specs.declared.domain_settings.Role.{Role}
@@ -16,7 +17,7 @@ absentHeld =
       «past_threshold» = 0;
       period = 0;
       «confirmation_time» = 0;
-      ids = record { sync = replicate 16 0; fup = replicate 16 0 };
+      ids = record { sync = replicate counters 0; fup = replicate counters 0 };
       role = Absent;
       mode = Validated;
       «jump_width» = 0;

@@ -90,8 +90,8 @@ impl DomainSettings {
             period: 0,
             confirmation_time: 0,
             ids: DataIds {
-                sync: [0; 16],
-                fup: [0; 16],
+                sync: [0; DataIds::COUNTERS],
+                fup: [0; DataIds::COUNTERS],
             },
             role: Role::Absent,
             mode: CheckMode::Validated,

@@ -4,7 +4,7 @@
 use Prim.Native.Nat.{ℕ, _+_, _-_, _%_, _<_}
 use mathlib.Core.Path.{_≡_}
 use native.Mathlib.Nat.{mod-eq-of-lt}
-use Rattle.slave_counter.specs.Counter.{stepOf}
+use Rattle.slave_counter.specs.Counter.{jumpOf}
 
-pub step-exact : (last new : ℕ) → last < 16 → new < 16 → stepOf last new ≡ (new + 16 - last) % 16
+pub step-exact : (last new : ℕ) → last < 16 → new < 16 → jumpOf last new ≡ (new + 16 - last) % 16
 step-exact last new p q = rw (mod-eq-of-lt q, mod-eq-of-lt p)

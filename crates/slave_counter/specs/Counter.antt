@@ -4,14 +4,15 @@ use mathlib.Core.Bool.{Bool, true, false, cond, _&&_}
 use lib.Dec.{leb, ltb}
 use Rattle.clock.specs.declared.reading.VirtualLocalTime.{VirtualLocalTime}
 use Rattle.clock.specs.Reading.{spanOf}
+use Rattle.frame.specs.ByteTwo.{counters}
 use Rattle.domain.specs.declared.LastSync.{LastSync}
 use Rattle.domain.specs.declared.LastSync.the-variants.{Unknown, Seen}
 use Rattle.slave_counter.specs.declared.CounterVerdict.{CounterVerdict}
 use Rattle.slave_counter.specs.declared.CounterVerdict.the-variants.{Free, Good, NotGood}
 
 -- ---- "(new minus last) modulo 16"
-abbrev pub stepOf : (last new : ℕ) → ℕ
-stepOf last new = (new % 16 + 16 - last % 16) % 16
+abbrev pub jumpOf : (last new : ℕ) → ℕ
+jumpOf last new = (new % counters + counters - last % counters) % counters
 
 -- ---- "if no counter is known, or more than L has passed since the SYNC last accepted, any counter is
 -- good. Otherwise (new minus last) modulo 16 must be 1 to J."
@@ -19,7 +20,7 @@ abbrev pub verdictOf : (j l : ℕ) → LastSync → ℕ → VirtualLocalTime →
 verdictOf j l Unknown new t = Free
 verdictOf j l (Seen last at) new t =
     cond (ltb l (spanOf at t)) Free
-    (cond (leb 1 (stepOf last new) && leb (stepOf last new) j) Good NotGood)
+    (cond (leb 1 (jumpOf last new) && leb (jumpOf last new) j) Good NotGood)
 
 abbrev pub isGoodCounter : CounterVerdict → Bool
 isGoodCounter Free = true

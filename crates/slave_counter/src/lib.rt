@@ -1,6 +1,7 @@
 // The counter check of a SYNC (paper 01, "A slave's domain").
 use clock::VirtualLocalTime;
 use domain::LastSync;
+use frame::COUNTERS;
 ghost use mathlib.Core.Path.{_≡_};
 ghost use Rattle.slave_counter.specs.Counter.{verdictOf, isGoodCounter};
 
@@ -27,7 +28,7 @@ pub fn judge_counter(
             if loss_time < t.since(at) {
                 return CounterVerdict::Free;
             }
-            let step = (new % 16 + 16 - counter % 16) % 16;
+            let step = (new % COUNTERS + COUNTERS - counter % COUNTERS) % COUNTERS;
             if step < 1 {
                 return CounterVerdict::NotGood;
             }

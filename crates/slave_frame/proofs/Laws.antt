@@ -8,10 +8,11 @@ use Rattle.promise.proofs.Laws.{either}
 use Rattle.clock.specs.declared.reading.VirtualLocalTime.{VirtualLocalTime}
 use Rattle.frame.specs.declared.values.Frame.{Frame}
 use Rattle.frame.specs.declared.values.Frame.the-variants.{Sync as sync, Fup as fup}
-use Rattle.frame_check.specs.Check.{isGood}
+use Rattle.frame_check.specs.Check.{isTaken}
 use Rattle.domain.specs.declared.Domain.{Domain}
 use Rattle.slave_frame.specs.Step.{kindOf, frameOf}
-use Rattle.slave_sync.proofs.Laws.{Keeps, refusal-keeps-sync}
+use Rattle.slave_answer.specs.Answer.{Keeps}
+use Rattle.slave_sync.proofs.Laws.{refusal-keeps-sync}
 use Rattle.slave_fup.proofs.Laws.{refusal-keeps-fup}
 
 kind-keeps : (v : Frame) (d : Domain) (t : VirtualLocalTime) → Keeps d (kindOf d t v)
@@ -21,4 +22,4 @@ kind-keeps (fup f) d t = refusal-keeps-fup d t f
 pub refusal-keeps-frame :
     (d : Domain) (t : VirtualLocalTime) (bytes : List ℕ) (values : Frame) → Keeps d (frameOf d t bytes values)
 refusal-keeps-frame d t bytes values =
-    either (Keeps d) (isGood (d .settings .mode) (d .settings .ids) bytes) (kind-keeps values d t) (λ r e. refl)
+    either (Keeps d) (isTaken (d .settings .mode) (d .settings .ids) bytes) (kind-keeps values d t) (λ r e. refl)

@@ -9,7 +9,7 @@ use Rattle.promise.proofs.Laws.{equation-only}
 use Rattle.clock.specs.declared.reading.VirtualLocalTime.{VirtualLocalTime}
 use Rattle.frame.specs.declared.values.Frame.{Frame}
 use Rattle.domain.specs.declared.Domain.{Domain}
-use Rattle.slave_sync.specs.declared.FrameStep.{FrameStep}
+use Rattle.slave_answer.specs.declared.FrameStep.{FrameStep}
 use Rattle.slave_frame.specs.Step.{frameOf}
 
 pub take-frame-only :

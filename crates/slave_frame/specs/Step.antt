@@ -6,11 +6,11 @@ use mathlib.Core.List.{List}
 use Rattle.clock.specs.declared.reading.VirtualLocalTime.{VirtualLocalTime}
 use Rattle.frame.specs.declared.values.Frame.{Frame}
 use Rattle.frame.specs.declared.values.Frame.the-variants.{Sync as sync, Fup as fup}
-use Rattle.frame_check.specs.Check.{isGood}
+use Rattle.frame_check.specs.Check.{isTaken}
 use Rattle.refusal.specs.declared.Refusal.the-variants.{Check}
 use Rattle.domain.specs.declared.Domain.{Domain}
-use Rattle.slave_sync.specs.declared.FrameStep.{FrameStep}
-use Rattle.slave_sync.specs.Answer.{refusedOf}
+use Rattle.slave_answer.specs.declared.FrameStep.{FrameStep}
+use Rattle.slave_answer.specs.Answer.{refusedOf}
 use Rattle.slave_sync.specs.Sync.{syncOf}
 use Rattle.slave_fup.specs.Fup.{fupOf}
 
@@ -20,4 +20,4 @@ kindOf d t (fup f) = fupOf d t f
 
 abbrev pub frameOf : Domain → VirtualLocalTime → List ℕ → Frame → FrameStep
 frameOf d t bytes values =
-    cond (isGood (d .settings .mode) (d .settings .ids) bytes) (kindOf d t values) (refusedOf d Check)
+    cond (isTaken (d .settings .mode) (d .settings .ids) bytes) (kindOf d t values) (refusedOf d Check)

@@ -4,10 +4,10 @@ use clock::VirtualLocalTime;
 use domain::Domain;
 use frame::Frame;
 use refusal::Refusal;
+use slave_answer::FrameAnswer;
+use slave_answer::FrameStep;
 use slave_fup::take_fup;
-use slave_sync::FrameStep;
 use slave_sync::take_sync;
-use slave_update::FrameAnswer;
 ghost use mathlib.Core.Path.{_≡_};
 ghost use Rattle.slave_frame.specs.Step.{frameOf};
 

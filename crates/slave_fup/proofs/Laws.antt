@@ -15,11 +15,11 @@ use Rattle.domain.specs.declared.Pairing.{Pairing}
 use Rattle.domain.specs.declared.Pairing.the-variants.{Waiting, Open}
 use Rattle.slave_pair.specs.declared.joining.Joined.{Joined}
 use Rattle.slave_pair.specs.declared.joining.Joined.the-variants.{With, Refused}
-use Rattle.slave_update.specs.Answer.{frameNumber}
+use Rattle.slave_answer.specs.Answer.{frameNumber}
 use Rattle.slave_pair.specs.Join.{isOld, isOther, isAbove, joinedOf}
 use Rattle.slave_update.specs.Update.{newBase, updateOf}
 use Rattle.slave_fup.specs.Fup.{takenBy, fupAs, fupOf}
-use Rattle.slave_sync.proofs.Laws.{Keeps}
+use Rattle.slave_answer.specs.Answer.{Keeps}
 
 -- ---- a refusal keeps the record
 

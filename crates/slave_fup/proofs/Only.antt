@@ -7,7 +7,7 @@ use Rattle.promise.proofs.Laws.{equation-only}
 use Rattle.clock.specs.declared.reading.VirtualLocalTime.{VirtualLocalTime}
 use Rattle.frame.specs.declared.values.Fup.{Fup}
 use Rattle.domain.specs.declared.Domain.{Domain}
-use Rattle.slave_sync.specs.declared.FrameStep.{FrameStep}
+use Rattle.slave_answer.specs.declared.FrameStep.{FrameStep}
 use Rattle.slave_fup.specs.Fup.{fupOf}
 
 pub take-fup-only : (d : Domain) (t : VirtualLocalTime) (f : Fup) → OnlyOne (λ (r : FrameStep). r ≡ fupOf d t f)

@@ -3,36 +3,25 @@ use Rattle.clock.specs.declared.reading.VirtualLocalTime.{VirtualLocalTime}
 use Rattle.clock.specs.declared.base.Held.the-variants.{Set}
 use Rattle.frame.specs.declared.values.Fup.{Fup}
 use Rattle.domain.specs.declared.Domain.{Domain}
-use Rattle.domain.specs.Updates.{nextUpdate}
+use Rattle.domain.specs.Fields.{withBase, withUpdate, withPairing, withStored}
 use Rattle.domain.specs.declared.Pair.{Pair}
 use Rattle.domain.specs.declared.Pairing.the-variants.{Waiting}
 use Rattle.domain.specs.declared.Leap.{Leap}
 use Rattle.slave_pair.specs.declared.joining.Joined.{Joined}
 use Rattle.slave_pair.specs.declared.joining.Joined.the-variants.{With, Refused}
 use Rattle.slave_update.specs.declared.update.Update.{Update}
-use Rattle.slave_sync.specs.declared.FrameStep.{FrameStep}
+use Rattle.slave_answer.specs.declared.FrameStep.{FrameStep}
 use Rattle.slave_pair.specs.Join.{joinedOf}
 use Rattle.slave_update.specs.Update.{newBase, updateOf}
-use Rattle.slave_sync.specs.Answer.{refusedOf}
+use Rattle.slave_answer.specs.Answer.{refusedOf}
 use Rattle.slave_pair.specs.Pair.{userIn}
 
 -- ---- "The pair closes. The update counter rises by 1, from 255 to 0. The user bytes and SGW are
 -- stored; one that the frame kind doesn't carry reads 0."
 abbrev pub updatedOf : Domain → Pair → Fup → Leap → Domain
 updatedOf d p f leap =
-    record {
-      settings = d .settings;
-      base = Set (newBase p f);
-      pairing = Waiting;
-      last = d .last;
-      sending = d .sending;
-      number = d .number;
-      user = record { 0 = p .user0; 1 = p .user1; 2 = userIn (f .protection) };
-      sgw = f .sgw;
-      leap = leap;
-      updates = nextUpdate (d .updates);
-      «next_counter» = d .«next_counter»;
-    }
+    withStored (withPairing (withUpdate (withBase d (Set (newBase p f)))) Waiting)
+    (record { 0 = p .user0; 1 = p .user1; 2 = userIn (f .protection) }) (f .sgw) leap
 
 abbrev pub takenBy : Update → Domain → Pair → Fup → FrameStep
 takenBy u d p f = record { answer = u .answer; domain = updatedOf d p f (u .leap) }

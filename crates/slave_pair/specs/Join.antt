@@ -4,6 +4,7 @@ use mathlib.Core.Bool.{Bool, not, cond}
 use lib.Dec.{ltb, eqb}
 use Rattle.clock.specs.declared.reading.VirtualLocalTime.{VirtualLocalTime}
 use Rattle.clock.specs.Reading.{spanOf}
+use Rattle.clock.specs.Time.{isNanoseconds}
 use Rattle.frame.specs.declared.values.Fup.{Fup}
 use Rattle.refusal.specs.declared.Refusal.the-variants.{NoOpenPair, FupCounter, Nanoseconds}
 use Rattle.domain.specs.declared.Pair.{Pair}
@@ -21,7 +22,7 @@ abbrev pub isOther : Pair → Fup → Bool
 isOther p fup = not (eqb (fup .counter) (p .counter))
 
 abbrev pub isAbove : Fup → Bool
-isAbove fup = ltb 999999999 (fup .nanoseconds)
+isAbove fup = not (isNanoseconds (fup .nanoseconds))
 
 abbrev pub joinedOf : (f : ℕ) → Pairing → VirtualLocalTime → Fup → Joined
 joinedOf f Waiting t fup = Refused NoOpenPair

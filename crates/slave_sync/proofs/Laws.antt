@@ -6,16 +6,12 @@ use mathlib.Core.Path.{_≡_, refl}
 use Rattle.promise.proofs.Laws.{either}
 use Rattle.clock.specs.declared.reading.VirtualLocalTime.{VirtualLocalTime}
 use Rattle.frame.specs.declared.values.Sync.{Sync}
-use Rattle.refusal.specs.declared.Refusal.{Refusal}
 use Rattle.domain.specs.declared.Domain.{Domain}
-use Rattle.slave_update.specs.declared.answer.FrameAnswer.the-variants.{Refused as refused}
-use Rattle.slave_sync.specs.declared.FrameStep.{FrameStep}
+use Rattle.slave_answer.specs.declared.FrameStep.{FrameStep}
+use Rattle.slave_answer.specs.Answer.{Keeps}
 use Rattle.slave_sync.specs.Sync.{takesSync, syncOf}
 
 -- ---- a refusal keeps the record
-
-abbrev pub Keeps : Domain → FrameStep → Type 0
-Keeps d r = (refusal : Refusal) → r .answer ≡ refused refusal → r .domain ≡ d
 
 pub refusal-keeps-sync : (d : Domain) (t : VirtualLocalTime) (s : Sync) → Keeps d (syncOf d t s)
 refusal-keeps-sync d t s = either (Keeps d) (takesSync d t s) (λ r e. cc) (λ r e. refl)

@@ -1,3 +1,2 @@
--- The definitions of `slave_sync`, in the order to read them.
-pub mod Answer
+-- The definitions of `slave_sync`.
 pub mod Sync

@@ -1,24 +1,18 @@
-// A SYNC on a slave's record (paper 01, "A slave's domain"), and the step of any frame: it answers, and
-// gives the record back by value, as it was where it refuses. Roles are not looked at here: the node
-// asks the right record.
+// A SYNC on a slave's record (paper 01, "A slave's domain"): it answers, and gives the record back by value, as
+// it was where it refuses. Roles are not looked at here: the node asks the right record.
 use clock::VirtualLocalTime;
 use domain::Domain;
 use domain::LastSync;
 use domain::Pairing;
 use frame::Sync;
 use refusal::Refusal;
+use slave_answer::FrameAnswer;
+use slave_answer::FrameStep;
 use slave_counter::is_good_counter;
 use slave_counter::judge_counter;
 use slave_pair::pair_of;
-use slave_update::FrameAnswer;
 ghost use mathlib.Core.Path.{_≡_};
 ghost use Rattle.slave_sync.specs.Sync.{syncOf};
-
-// The answer to a frame, and the record after it.
-pub struct FrameStep {
-    pub answer: FrameAnswer,
-    pub domain: Domain,
-}
 
 // A SYNC that was not refused before 6: it opens a pair and becomes the last, or is refused by 6.
 pub fn take_sync(domain: Domain, t: VirtualLocalTime, sync: Sync) -> FrameStep

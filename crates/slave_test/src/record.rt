@@ -5,7 +5,7 @@ use domain::Domain;
 use domain::LastSync;
 use domain::Leap;
 use domain::Pairing;
-use slave_update::FrameAnswer;
+use slave_answer::FrameAnswer;
 
 pub fn answered(answer: FrameAnswer) {
     match answer {

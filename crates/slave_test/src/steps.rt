@@ -8,10 +8,10 @@ use frame::Frame;
 use frame::Fup;
 use frame::Protection;
 use frame::Sync;
+use slave_answer::FrameStep;
 use slave_frame::take_frame;
 use slave_fup::take_fup;
 use slave_status::status_at;
-use slave_sync::FrameStep;
 use slave_sync::take_sync;
 
 // ---- a fresh record, of domain 1

@@ -1,4 +1,3 @@
 -- The definitions of `slave_update`, in the order to read them.
-pub mod Answer
 pub mod Leap
 pub mod Update

@@ -10,7 +10,7 @@ use Rattle.frame.specs.declared.values.Fup.{Fup}
 use Rattle.domain.specs.declared.Pair.{Pair}
 use Rattle.domain.specs.declared.Leap.the-variants.{None}
 use Rattle.slave_update.specs.declared.update.Update.{Update}
-use Rattle.slave_update.specs.declared.answer.FrameAnswer.the-variants.{FirstTaken, Updated}
+use Rattle.slave_answer.specs.declared.FrameAnswer.the-variants.{FirstTaken, Updated}
 use Rattle.slave_update.specs.Leap.{leapOf}
 
 -- ---- "The base then holds seconds plus OVS, and the nanoseconds, at T2."

@@ -1,5 +1,4 @@
 // What a pair and its FUP make of the base (paper 01, "A slave's domain").
-use crate::answer::FrameAnswer;
 use crate::leap::leap_of;
 use clock::GlobalTime;
 use clock::Held;
@@ -7,6 +6,7 @@ use clock::TimeBase;
 use domain::Leap;
 use domain::Pair;
 use frame::Fup;
+use slave_answer::FrameAnswer;
 ghost use mathlib.Core.Path.{_≡_};
 ghost use Rattle.slave_update.specs.Update.{newBase, updateOf};
 

@@ -4,10 +4,10 @@ use mathlib.Core.List.{List, [], _∷_, _++_}
 use Rattle.text.specs.Text.{hexByte, hexOf, decimal}
 use Rattle.text.specs.Lines.{blank, newline, answerText, timeText}
 use Rattle.settings.specs.declared.domain_settings.UserBytes.{UserBytes}
-use Rattle.answers.specs.declared.ReadAnswer.{ReadAnswer}
-use Rattle.answers.specs.declared.ReadAnswer.the-variants as read
-use Rattle.answers.specs.declared.CycleAnswer.{CycleAnswer}
-use Rattle.answers.specs.declared.CycleAnswer.the-variants as cycle
+use Rattle.call_read.specs.declared.ReadAnswer.{ReadAnswer}
+use Rattle.call_read.specs.declared.ReadAnswer.the-variants as read
+use Rattle.node.specs.declared.cycles.CycleAnswer.{CycleAnswer}
+use Rattle.node.specs.declared.cycles.CycleAnswer.the-variants as cycle
 use Rattle.node_call.specs.declared.CallAnswer.{CallAnswer}
 use Rattle.node_call.specs.declared.CallAnswer.the-variants.{Frame, Read, Set, Cycle, Confirm}
 use Rattle.node_call.specs.Called.{numberOf}

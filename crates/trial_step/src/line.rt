@@ -1,6 +1,6 @@
 // The trial's line of an answer. A lent buffer is shown whole, also where the call is refused.
-use answers::CycleAnswer;
-use answers::ReadAnswer;
+use call_read::ReadAnswer;
+use node::CycleAnswer;
 use node_call::CallAnswer;
 use node_call::call_number;
 use settings::UserBytes;

@@ -7,15 +7,11 @@ use mathlib.Core.List.{List}
 use Rattle.promise.specs.Only.{OnlyOne}
 use Rattle.promise.proofs.Laws.{equation-only}
 use Rattle.clock.specs.declared.reading.VirtualLocalTime.{VirtualLocalTime}
-use Rattle.frame.specs.declared.values.Frame.{Frame}
 use Rattle.settings.specs.declared.domain_settings.Role.{Role}
 use Rattle.admission.specs.declared.frames.FrameAdmission.{FrameAdmission}
-use Rattle.admission.specs.FrameAdmission.{domainIn, frameAdmitted}
+use Rattle.admission.specs.FrameAdmission.{frameAdmitted}
 
 pub admit-frame-only :
     (kept t : VirtualLocalTime) (own : ℕ) (role : Role) (bytes : List ℕ) →
     OnlyOne (λ (r : FrameAdmission). r ≡ frameAdmitted kept t own role bytes)
 admit-frame-only kept t own role bytes = equation-only _
-
-pub domain-in-only : (values : Frame) → OnlyOne (λ (r : ℕ). r ≡ domainIn values)
-domain-in-only values = equation-only _

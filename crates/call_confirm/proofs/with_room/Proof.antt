@@ -10,22 +10,22 @@ use Rattle.call_confirm.proofs.with_room.Tie as tie
 returns : tie.Need-returns
 returns c = rw (le-leb _ _ (c .if1 .taken))
 
-confirm-number-requires : tie.Need-confirm-number-requires
-confirm-number-requires c κs = search needs
+number-requires : tie.Need-number-requires
+number-requires c κs = search needs
 
 returns-2 : tie.Need-returns-2
 returns-2 c =
     rw (
       lt-leb _ _ (c .before .before .if1 .left),
-      eq-eqb _ _ (sym (c .before .confirm-number .ensures) ∙ c .if2 .taken),
+      eq-eqb _ _ (sym (c .before .number .ensures) ∙ c .if2 .taken),
     )
 
 returns-3 : tie.Need-returns-3
 returns-3 c =
     rw (
       lt-leb _ _ (c .before .before .if1 .left),
-      ne-eqb _ _ (λ e. c .if2 .left (c .before .confirm-number .ensures ∙ e)),
+      ne-eqb _ _ (λ e. c .if2 .left (c .before .number .ensures ∙ e)),
     )
 
 pub with-room-spec : {M : Type 1} → statement M
-with-room-spec = tie.close (tie.spec returns confirm-number-requires returns-2 returns-3)
+with-room-spec = tie.close (tie.spec returns number-requires returns-2 returns-3)

@@ -31,8 +31,8 @@ enum-known-values c = search needs
 take-frame-requires : tie.Need-take-frame-requires
 take-frame-requires c κs = search needs
 
-frame-number-requires : tie.Need-frame-number-requires
-frame-number-requires c κs = search needs
+number-requires : tie.Need-number-requires
+number-requires c κs = search needs
 
 kept-after-requires : tie.Need-kept-after-requires
 kept-after-requires c κs = search needs
@@ -43,7 +43,7 @@ returns c = sym (as-found (c .before .before .before) _ (c .before .refusal .giv
 returns-2 : tie.Need-returns-2
 returns-2 c =
     let at = c .before .before .before in
-    rw (c .kept-after .ensures, c .before .frame-number .ensures, at .take-frame .ensures)
+    rw (c .kept-after .ensures, c .before .number .ensures, at .take-frame .ensures)
     (sym (as-found (at .before .before .before .before) _ (at .before .before .values .given .1)))
 
 pub frame-call-spec : {M : Type 1} → statement M
@@ -54,7 +54,7 @@ frame-call-spec =
     enum-known-refusal
     enum-known-values
     take-frame-requires
-    frame-number-requires
+    number-requires
     kept-after-requires
     returns
     returns-2)

@@ -29,8 +29,8 @@ enum-told c = search needs
 set-time-requires : tie.Need-set-time-requires
 set-time-requires c κs = search needs
 
-set-number-requires : tie.Need-set-number-requires
-set-number-requires c κs = search needs
+number-requires : tie.Need-number-requires
+number-requires c κs = search needs
 
 kept-after-requires : tie.Need-kept-after-requires
 kept-after-requires c κs = search needs
@@ -41,7 +41,7 @@ returns c = sym (as-found (c .before .before .before) _ (c .before .refusal .giv
 returns-2 : tie.Need-returns-2
 returns-2 c =
     let at = c .before .before .before in
-    rw (c .kept-after .ensures, c .before .set-number .ensures, at .set-time .ensures)
+    rw (c .kept-after .ensures, c .before .number .ensures, at .set-time .ensures)
     (sym (as-found (at .before .before .before) _ (at .before .enum-told .given .1)))
 
 pub set-call-spec : {M : Type 1} → statement M
@@ -52,7 +52,7 @@ set-call-spec =
     enum-known-refusal
     enum-told
     set-time-requires
-    set-number-requires
+    number-requires
     kept-after-requires
     returns
     returns-2)

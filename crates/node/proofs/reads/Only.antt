@@ -6,7 +6,7 @@ use mathlib.Core.Path.{_≡_}
 use Rattle.promise.specs.Only.{OnlyOne}
 use Rattle.promise.proofs.Laws.{equation-only}
 use Rattle.clock.specs.declared.reading.VirtualLocalTime.{VirtualLocalTime}
-use Rattle.answers.specs.declared.ReadAnswer.{ReadAnswer}
+use Rattle.call_read.specs.declared.ReadAnswer.{ReadAnswer}
 use Rattle.node.specs.declared.Node.{Node}
 use Rattle.node.specs.Read.{nodeReadOf}
 

@@ -12,7 +12,7 @@ use borrow.Author.Needs.{needs}
 use Rattle.clock.specs.declared.reading.VirtualLocalTime.{VirtualLocalTime}
 use Rattle.domain.specs.declared.Domain.{Domain}
 use Rattle.round.specs.Round.{Gone, roundOf}
-use Rattle.round.proofs.Turns.{getD-any, sent-least, Rest, onward, at-end}
+use Rattle.round.proofs.Rest.{getD-any, sent-least, Rest, onward, at-end}
 use Rattle.round.proofs.go_round.Statement.{statement}
 use Rattle.round.proofs.go_round.Tie as tie
 

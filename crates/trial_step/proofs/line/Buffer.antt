@@ -7,8 +7,8 @@ use native.Mathlib.Omega.{arith}
 use lib.ListN.{length}
 use Rattle.text.specs.Text.{hexOf, decimal}
 use Rattle.text.specs.Lines.{blank}
-use Rattle.answers.specs.declared.CycleAnswer.{CycleAnswer}
-use Rattle.answers.specs.declared.CycleAnswer.the-variants.{Sent, Refused}
+use Rattle.node.specs.declared.cycles.CycleAnswer.{CycleAnswer}
+use Rattle.node.specs.declared.cycles.CycleAnswer.the-variants.{Sent, Refused}
 use Rattle.node_call.specs.declared.CallAnswer.the-variants.{Cycle}
 use Rattle.trial_step.specs.TrialLine.{countOf, shownBuffer, bufferText, valuesText}
 

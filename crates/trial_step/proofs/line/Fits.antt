@@ -10,8 +10,8 @@ use Rattle.text.specs.Text.{decimal, hexByte}
 use Rattle.text.proofs.Lengths.{decimal-length, hex-length, append-fits}
 use Rattle.text.specs.Lines.{blank, newline, answerText, timeText}
 use Rattle.text.proofs.lines.Fits.{time-fits, answer-fits}
-use Rattle.answers.specs.declared.ReadAnswer.{ReadAnswer}
-use Rattle.answers.specs.declared.ReadAnswer.the-variants as read
+use Rattle.call_read.specs.declared.ReadAnswer.{ReadAnswer}
+use Rattle.call_read.specs.declared.ReadAnswer.the-variants as read
 use Rattle.node_call.specs.declared.CallAnswer.{CallAnswer}
 use Rattle.node_call.specs.declared.CallAnswer.the-variants.{Frame, Read, Set, Cycle, Confirm}
 use Rattle.node_call.specs.Called.{numberOf}

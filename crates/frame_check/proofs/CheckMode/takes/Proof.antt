@@ -14,7 +14,7 @@ use Rattle.frame.specs.declared.types.FrameType.the-variants.{
   SecuredFup,
   Unknown,
 }
-use Rattle.frame_check.specs.Check.{isGood, judged}
+use Rattle.frame_check.specs.Check.{isTaken, judged}
 use Rattle.frame_check.proofs.CheckMode.takes.Statement.{statement}
 use Rattle.frame_check.proofs.CheckMode.takes.Tie as tie
 
@@ -24,7 +24,7 @@ start c = c .before .before .before .before
 -- where `of` answered k, the verdict is that on k
 told :
     (c : tie.After-of) (k : FrameType) → c .of .result ≡ k → let a = start c .args in
-    judged k (a .self) (a .ids) (now (a .bytes)) ≡ isGood (a .self) (a .ids) (now (a .bytes))
+    judged k (a .self) (a .ids) (now (a .bytes)) ≡ isTaken (a .self) (a .ids) (now (a .bytes))
 told c k e =
     let a = start c .args in
     rw (eq-eqb (length (now (a .bytes))) 8 (c .before .before .if1 .left))

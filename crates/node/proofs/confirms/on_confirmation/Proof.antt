@@ -7,15 +7,13 @@ use native.Mathlib.Omega.{arith}
 use lib.ListN.{length}
 use denote.Ref.{now}
 use borrow.Author.Needs.{needs}
+use Rattle.settings.specs.Node.{places}
 use Rattle.domain.specs.declared.Domain.{Domain}
 use Rattle.call_confirm.specs.ConfirmCall.{confirmCallOf, confirmBytes}
 use Rattle.node.specs.Confirm.{confirmStored}
 use Rattle.node.proofs.Sixteen.{looked-up}
 use Rattle.node.proofs.confirms.on_confirmation.Statement.{statement}
 use Rattle.node.proofs.confirms.on_confirmation.Tie as tie
-
-cast-at : tie.Need-cast-at
-cast-at c = search needs
 
 mul-record : tie.Need-mul-record
 mul-record c = search needs
@@ -40,11 +38,11 @@ returns c =
     let called = c .before .before .before .before in
     let at = called .before .before .before .before .before in
     let a = at .args in
-    let found = looked-up (a .t1) _ (at .good .0) (a .domain % 16) _ (omega arith) in
+    let found = looked-up (a .t1) _ (at .good .0) (a .domain % places) _ (omega arith) in
     let out = now (a .out) in
     record {
       call =
-          ap (confirmStored (a .t1) (a .domain % 16))
+          ap (confirmStored (a .t1) (a .domain % places))
           (called .confirm-call .ensures .call
           ∙ ap (λ (d : Domain). confirmCallOf d (a .t1 .kept) (a .domain) (a .t) (a .counter) (length out)) found);
       bytes =
@@ -56,7 +54,6 @@ pub on-confirmation-spec : {M : Type 1} → statement M
 on-confirmation-spec =
     tie.close
     (tie.spec
-    cast-at
     mul-record
     element-copy-out-record
     confirm-call-requires

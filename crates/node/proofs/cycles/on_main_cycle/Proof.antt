@@ -11,7 +11,7 @@ use Rattle.refusal.specs.declared.Refusal.the-variants.{Reading, NoRoom}
 use Rattle.admission.specs.Reading.{isGoodReading}
 use Rattle.round.specs.declared.Round.{Round}
 use Rattle.node.specs.declared.Node.{Node}
-use Rattle.answers.specs.declared.CycleAnswer.the-variants.{Sent}
+use Rattle.node.specs.declared.cycles.CycleAnswer.the-variants.{Sent}
 use Rattle.node.specs.declared.cycles.NodeCycle.{NodeCycle}
 use Rattle.node.specs.Cycle.{isRoomFor, goneFrom, cycledBy, cycleRefused, nodeCycleOf}
 use Rattle.node.proofs.cycles.on_main_cycle.Statement.{statement}

@@ -5,15 +5,13 @@ use Prim.Native.Nat.{_%_}
 use mathlib.Core.Path.{ap, _∙_}
 use native.Mathlib.Omega.{arith}
 use borrow.Author.Needs.{needs}
+use Rattle.settings.specs.Node.{places}
 use Rattle.domain.specs.declared.Domain.{Domain}
 use Rattle.call_set.specs.SetCall.{setCallOf}
 use Rattle.node.specs.Set.{setStored}
 use Rattle.node.proofs.Sixteen.{looked-up}
 use Rattle.node.proofs.sets.on_set.Statement.{statement}
 use Rattle.node.proofs.sets.on_set.Tie as tie
-
-cast-at : tie.Need-cast-at
-cast-at c = search needs
 
 mul-record : tie.Need-mul-record
 mul-record c = search needs
@@ -35,7 +33,7 @@ returns c =
     let called = c .before .before in
     let at = called .before .before .before in
     let a = at .args in
-    ap (setStored (a .t1) (a .domain % 16))
+    ap (setStored (a .t1) (a .domain % places))
     (called .set-call .ensures
     ∙ ap (λ (d : Domain). setCallOf d (a .t1 .kept) (a .domain) (a .t) (a .seconds) (a .nanoseconds))
     (looked-up (a .t1) _ (at .good .0) _ _ (omega arith)))
@@ -44,7 +42,6 @@ pub on-set-spec : {M : Type 1} → statement M
 on-set-spec =
     tie.close
     (tie.spec
-    cast-at
     mul-record
     element-copy-out-record
     set-call-requires

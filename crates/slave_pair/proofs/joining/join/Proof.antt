@@ -1,7 +1,7 @@
 -- `slave_pair::joining::join` meets its contract: at each return the tests that led there decide the
 -- definition's.
 -- Assumes nothing.
-use borrow.Author.Tests.{le-ltb, lt-ltb, eq-eqb, ne-eqb}
+use borrow.Author.Tests.{le-ltb, lt-ltb, le-leb, lt-leb, eq-eqb, ne-eqb}
 use borrow.Author.Needs.{needs}
 use Rattle.slave_pair.proofs.joining.join.Statement.{statement}
 use Rattle.slave_pair.proofs.joining.join.Tie as tie
@@ -42,7 +42,7 @@ returns-4 c =
       at .before .before .before .pairing .given .1,
       le-ltb _ _ (rw (at .since .ensures) at (young .if1 .left)),
       eq-eqb _ _ (same .if2 .left),
-      lt-ltb _ _ (c .if3 .taken),
+      lt-leb _ _ (c .if3 .taken),
     )
 
 returns-5 : tie.Need-returns-5
@@ -54,7 +54,7 @@ returns-5 c =
       at .before .before .before .pairing .given .1,
       le-ltb _ _ (rw (at .since .ensures) at (young .if1 .left)),
       eq-eqb _ _ (same .if2 .left),
-      le-ltb _ _ (c .if3 .left),
+      le-leb _ _ (c .if3 .left),
     )
 
 pub join-spec : {M : Type 1} → statement M

@@ -1,8 +1,8 @@
--- `answers::kept_after` meets its contract: the test is the definition's.
+-- `admission::kept_after` meets its contract: the test is the definition's.
 -- Assumes nothing.
 use borrow.Author.Tests.{eq-eqb, ne-eqb}
-use Rattle.answers.proofs.kept_after.Statement.{statement}
-use Rattle.answers.proofs.kept_after.Tie as tie
+use Rattle.admission.proofs.kept_after.Statement.{statement}
+use Rattle.admission.proofs.kept_after.Tie as tie
 
 returns : tie.Need-returns
 returns c = rw (eq-eqb _ _ (c .if1 .taken))

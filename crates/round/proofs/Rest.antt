@@ -19,7 +19,7 @@ use Rattle.domain.specs.declared.Domain.{Domain}
 use Rattle.master_send.specs.declared.SendAnswer.{SendAnswer}
 use Rattle.master_send.specs.declared.SendAnswer.the-variants.{Sent, NotDue}
 use Rattle.master_send.specs.declared.SendStep.{SendStep}
-use Rattle.round.specs.Records.{recordAt}
+use Rattle.domain.specs.Records.{recordAt}
 use Rattle.round.specs.Turn.{turnOf, nextAfter}
 use Rattle.round.specs.Round.{framesBy, sentAfter, Gone, before, goes, roundOf, pasted, RoundIn}
 

@@ -1,8 +1,8 @@
 -- Paper 01, "Refusal numbers": what a main cycle answers. Assumes nothing.
 use Prim.Native.Nat.{ℕ}
 use Rattle.refusal.specs.Numbers.{numberOf}
-use Rattle.answers.specs.declared.CycleAnswer.{CycleAnswer}
-use Rattle.answers.specs.declared.CycleAnswer.the-variants.{Sent, Refused}
+use Rattle.node.specs.declared.cycles.CycleAnswer.{CycleAnswer}
+use Rattle.node.specs.declared.cycles.CycleAnswer.the-variants.{Sent, Refused}
 
 -- ---- "0 is success"; "A refused call returns the number and zeros"
 abbrev pub cycleNumber : CycleAnswer → ℕ

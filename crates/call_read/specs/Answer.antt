@@ -1,9 +1,9 @@
 -- Paper 01, "Refusal numbers": what a read answers. Assumes nothing.
 use Prim.Native.Nat.{ℕ}
 use Rattle.refusal.specs.Numbers.{numberOf}
-use Rattle.answers.specs.declared.Shown.{Shown}
-use Rattle.answers.specs.declared.ReadAnswer.{ReadAnswer}
-use Rattle.answers.specs.declared.ReadAnswer.the-variants.{Time, Refused}
+use Rattle.call_read.specs.declared.Shown.{Shown}
+use Rattle.call_read.specs.declared.ReadAnswer.{ReadAnswer}
+use Rattle.call_read.specs.declared.ReadAnswer.the-variants.{Time, Refused}
 
 -- ---- "A refused call returns the number and zeros"
 abbrev pub readNumber : ReadAnswer → ℕ

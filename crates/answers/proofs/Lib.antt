@@ -1,2 +1,0 @@
--- The laws of `answers`.
-pub mod Only

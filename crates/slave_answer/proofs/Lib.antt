@@ -1,0 +1,2 @@
+-- The laws of `slave_answer`.
+pub mod Only

@@ -1,0 +1,2 @@
+-- The definitions of `slave_answer`.
+pub mod Answer
