@@ -1,3 +1,3 @@
 -- The laws of `round`, each after what it stands on.
-pub mod Turns
+pub mod Rest
 pub mod Only

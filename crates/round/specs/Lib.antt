@@ -1,4 +1,4 @@
 -- The definitions of `round`, in the order to read them.
 pub mod Records
-pub mod Round
 pub mod Turn
+pub mod Round

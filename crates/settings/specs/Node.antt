@@ -1,4 +1,5 @@
 -- Paper 01, "Settings of a node": S and the domains 0 to 15. Assumes nothing.
+use Prim.Native.Nat.{ℕ}
 use mathlib.Core.Bool.{Bool, true, cond, _&&_}
 use mathlib.Core.List.{List, [], _∷_}
 use Rattle.refusal.specs.declared.Refusal.the-variants.{Settings}
@@ -8,6 +9,11 @@ use Rattle.settings.specs.declared.node_settings.Verdict.{Verdict}
 use Rattle.settings.specs.declared.node_settings.Verdict.the-variants.{Good, Refused}
 use Rattle.settings.specs.Ranges.{within, isGood}
 
+-- ---- "Per domain 0 to 15": the number of domains
+abbrev pub places : ℕ
+places = 16
+
+-- ---- each of them is good
 abbrev pub allGood : List DomainSettings → Bool
 allGood [] = true
 allGood (s ∷ rest) = isGood s && allGood rest

@@ -8,7 +8,7 @@ ghost use Rattle.settings.specs.Node.{allGood, judgedOf};
 pub struct NodeSettings {
     // S, SYNC frames per main cycle.
     pub syncs_per_cycle: u8,
-    pub domains: [DomainSettings; 16],
+    pub domains: [DomainSettings; NodeSettings::DOMAINS],
 }
 
 // What is said of settings.
@@ -18,6 +18,9 @@ pub enum Verdict {
 }
 
 impl NodeSettings {
+    // Domains 0 to 15.
+    pub const DOMAINS: usize = 16;
+
     pub const SYNCS_PER_CYCLE_MIN: u8 = 1;
 
     pub const SYNCS_PER_CYCLE_MAX: u8 = 16;
@@ -41,11 +44,11 @@ impl NodeSettings {
     }
 }
 
-fn all_good(domains: [DomainSettings; 16]) -> bool
+fn all_good(domains: [DomainSettings; NodeSettings::DOMAINS]) -> bool
     ensures { λ r. ⌜ r ≡ allGood domains ⌝ }
 {
     let mut d = 0;
-    while d < 16 {
+    while d < NodeSettings::DOMAINS {
         let settings = domains[d];
         if !is_good(settings) {
             return false;
