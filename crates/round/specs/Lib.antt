@@ -2,3 +2,4 @@
 pub mod Records
 pub mod Turn
 pub mod Round
+pub mod FirstDue
