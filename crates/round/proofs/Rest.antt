@@ -1,13 +1,12 @@
 -- What is left of a round decides it: the invariant of `go_round`, kept by a turn.
 --   goes-turn      a turn, and then the turns that are left
---   record-any     the record at a place that is there does not depend on the stand-in
+--   getD-any       the record at a place that is there does not depend on the stand-in
 --   Rest           what is left of the turns gives what all of them give
 --   onward         and still after one turn
 --   at-end         so that with no turn left the round is done
 -- Assumes nothing.
-use Prim.Native.Nat.{ℕ, zero, suc, _+_, _%_, _≤_, _<_}
+use Prim.Native.Nat.{ℕ, zero, suc, _+_, _≤_, _<_}
 use mathlib.Core.Path.{_≡_, refl, sym, ap, _∙_}
-use mathlib.Core.Bool.{Bool}
 use mathlib.Core.List.{List, [], _∷_, _++_}
 use native.Mathlib.Nat.{add-zero}
 use native.Mathlib.Omega.{arith}
@@ -15,12 +14,13 @@ use lib.Dec.{ltb}
 use lib.ListN.{length, getD, set}
 use Rattle.clock.specs.declared.reading.VirtualLocalTime.{VirtualLocalTime}
 use Rattle.frame.specs.declared.data_ids.DataIds.{DataIds}
+use Rattle.settings.specs.Node.{places}
 use Rattle.domain.specs.declared.Domain.{Domain}
 use Rattle.master_send.specs.declared.SendAnswer.{SendAnswer}
 use Rattle.master_send.specs.declared.SendAnswer.the-variants.{Sent, NotDue}
 use Rattle.master_send.specs.declared.SendStep.{SendStep}
 use Rattle.domain.specs.Records.{recordAt}
-use Rattle.round.specs.Turn.{turnOf, nextAfter}
+use Rattle.round.specs.Turn.{turnOf, nextPlace, nextAfter}
 use Rattle.round.specs.Round.{framesBy, sentAfter, Gone, before, goes, roundOf, pasted, RoundIn}
 
 -- ---- one turn
@@ -29,7 +29,8 @@ pub goes-turn :
     let s = turnOf (ltb sent most) (recordAt ds at) t in
     goes (suc k) at sent most t ds next
     ≡ before (framesBy (s .answer) (recordAt ds at .settings .ids))
-    (goes k ((at + 1) % 16) (sentAfter (s .answer) sent) most t (set ds at (s .domain)) (nextAfter (s .answer) at next))
+    (goes k (nextPlace places at) (sentAfter (s .answer) sent) most t (set ds at (s .domain))
+    (nextAfter (s .answer) at next))
 unfolding goes
 goes-turn k at sent most t ds next = refl
 
@@ -74,7 +75,7 @@ module _ (whole : Gone) (first : List ℕ) (most : ℕ) (t : VirtualLocalTime) (
 
   abbrev left : Gone
   left =
-      goes k ((at + 1) % 16) (sentAfter (one .answer) sent) most t (set ds at (one .domain))
+      goes k (nextPlace places at) (sentAfter (one .answer) sent) most t (set ds at (one .domain))
       (nextAfter (one .answer) at next)
 
   told : goes (suc k) at sent most t ds next ≡ before (framesBy (one .answer) (recordAt ds at .settings .ids)) left
@@ -82,7 +83,7 @@ module _ (whole : Gone) (first : List ℕ) (most : ℕ) (t : VirtualLocalTime) (
 
   pub onward :
       Rest whole first most t (suc k) at sent ds next out →
-      Rest whole first most t k ((at + 1) % 16) sent′ (set ds at (s .domain)) next′ out′
+      Rest whole first most t k (nextPlace places at) sent′ (set ds at (s .domain)) next′ out′
   onward r =
       record {
         domains = rw (ec, en, es, ed) (sym (ap (λ (g : Gone). g .domains) told) ∙ r .domains);

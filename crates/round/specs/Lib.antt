@@ -1,3 +1,4 @@
 -- The definitions of `round`, in the order to read them.
-pub mod Round
 pub mod Turn
+pub mod Round
+pub mod FirstDue

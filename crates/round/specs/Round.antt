@@ -10,10 +10,11 @@ use Rattle.clock.specs.declared.reading.VirtualLocalTime.{VirtualLocalTime}
 use Rattle.frame.specs.declared.data_ids.DataIds.{DataIds}
 use Rattle.frame.specs.declared.values.Frame.the-variants.{Sync as sync}
 use Rattle.frame_write.specs.Write.{bytesOf, isRoom, writtenIn}
+use Rattle.settings.specs.Node.{places}
 use Rattle.domain.specs.declared.Domain.{Domain}
 use Rattle.master_send.specs.declared.SendAnswer.{SendAnswer}
 use Rattle.master_send.specs.declared.SendAnswer.the-variants.{Sent, NotDue}
-use Rattle.round.specs.Turn.{turnOf, nextAfter}
+use Rattle.round.specs.Turn.{turnOf, nextPlace, nextAfter}
 use Rattle.round.specs.declared.Round.{Round}
 use Rattle.domain.specs.Records.{recordAt}
 
@@ -41,11 +42,11 @@ goes zero at sent most t ds next = record { domains = ds; next = next; frames = 
 goes (suc turns) at sent most t ds next =
     let s = turnOf (ltb sent most) (recordAt ds at) t in
     before (framesBy (s .answer) (recordAt ds at .settings .ids))
-    (goes turns ((at + 1) % 16) (sentAfter (s .answer) sent) most t (set ds at (s .domain))
+    (goes turns (nextPlace places at) (sentAfter (s .answer) sent) most t (set ds at (s .domain))
     (nextAfter (s .answer) at next))
 
 abbrev pub roundOf : List Domain → (first : ℕ) → VirtualLocalTime → (most : ℕ) → Gone
-roundOf ds first t most = goes 16 (first % 16) 0 most t ds first
+roundOf ds first t most = goes places (first % places) 0 most t ds first
 
 -- ---- "written one after another in that order": from frame number `sent` on
 abbrev pub putAt : List ℕ → ℕ → List ℕ → List ℕ

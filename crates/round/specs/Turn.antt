@@ -3,6 +3,7 @@
 use Prim.Native.Nat.{ℕ, _+_, _%_}
 use mathlib.Core.Bool.{Bool, cond}
 use Rattle.clock.specs.declared.reading.VirtualLocalTime.{VirtualLocalTime}
+use Rattle.settings.specs.Node.{places}
 use Rattle.domain.specs.declared.Domain.{Domain}
 use Rattle.master_send.specs.declared.SendAnswer.{SendAnswer}
 use Rattle.master_send.specs.declared.SendAnswer.the-variants.{Sent, NotDue}
@@ -13,7 +14,11 @@ use Rattle.master_send.specs.Send.{sendOf}
 abbrev pub turnOf : (maySend : Bool) → Domain → VirtualLocalTime → SendStep
 turnOf maySend d t = cond maySend (sendOf d t) (record { answer = NotDue; domain = d })
 
+-- ---- "going round": the place after p of n
+abbrev pub nextPlace : (n p : ℕ) → ℕ
+nextPlace n p = (p + 1) % n
+
 -- ---- "Starting after the domain served last"
 abbrev pub nextAfter : SendAnswer → (at next : ℕ) → ℕ
-nextAfter (Sent s) at next = (at % 16 + 1) % 16
+nextAfter (Sent s) at next = nextPlace places (at % places)
 nextAfter NotDue at next = next

@@ -3,26 +3,29 @@
 // written one after another at a running offset, and bytes beyond them stay.
 pub mod turns;
 
+use crate::turns::PLACES;
 use clock::VirtualLocalTime;
 use domain::Domain;
 use frame::DataIds;
 use frame::Frame;
 use frame_write::write_frame;
 use master_send::SendAnswer;
+use settings::NodeSettings;
 pub use turns::next_after;
 pub use turns::turn;
 ghost use Prim.Native.Nat.{_≤_, _*_};
+ghost use Rattle.settings.specs.Node.{places};
 ghost use Rattle.round.specs.Round.{PutAt, RoundIn};
 
 // The records after a round, where the next one starts, and how many have sent.
 pub struct Round {
-    pub domains: [Domain; 16],
+    pub domains: [Domain; NodeSettings::DOMAINS],
     pub next: u8,
     pub sent: usize,
 }
 
 pub fn go_round(
-    domains: [Domain; 16],
+    domains: [Domain; NodeSettings::DOMAINS],
     first: u8,
     t: VirtualLocalTime,
     most: u8,
@@ -31,11 +34,11 @@ pub fn go_round(
     ensures { λ r. ⌜ RoundIn domains first t most (now (out .entry)) r (now (out .exit)) ⌝ }
 {
     let mut records = domains;
-    let mut at = (first % 16) as usize;
+    let mut at = (first % PLACES) as usize;
     let mut next = first;
     let mut sent = 0;
-    let mut turns: u8 = 0;
-    while turns < 16 {
+    let mut turns = 0;
+    while turns < NodeSettings::DOMAINS {
         let record = records[at];
         let settings = record.settings;
         let ids = settings.ids;
@@ -45,7 +48,7 @@ pub fn go_round(
         records[at] = after;
         sent = put(answer, ids, out, sent);
         next = next_after(answer, at as u8, next);
-        at = (at + 1) % 16;
+        at = (at + 1) % NodeSettings::DOMAINS;
         turns += 1;
     }
     Round {
@@ -57,7 +60,7 @@ pub fn go_round(
 
 // Writes what a turn sent behind the frames that are there, and counts it.
 fn put(answer: SendAnswer, ids: DataIds, out: &mut [u8], sent: usize) -> usize
-    requires { ⌜ sent ≤ 16 ⌝ }
+    requires { ⌜ sent ≤ places ⌝ }
     ensures { λ r. ⌜ PutAt answer ids sent (now (out .entry)) r (now (out .exit)) ⌝ }
 {
     match answer {

@@ -5,8 +5,12 @@ use domain::Domain;
 use master_send::SendAnswer;
 use master_send::SendStep;
 use master_send::send;
+use settings::NodeSettings;
 ghost use mathlib.Core.Path.{_≡_};
 ghost use Rattle.round.specs.Turn.{turnOf, nextAfter};
+
+// The number of domains, as a place is counted.
+pub const PLACES: u8 = NodeSettings::DOMAINS as u8;
 
 // A record's turn: it sends a SYNC if the domain is due and the cycle may still send.
 pub fn turn(domain: Domain, t: VirtualLocalTime, may_send: bool) -> SendStep
@@ -27,7 +31,7 @@ pub fn next_after(answer: SendAnswer, at: u8, next: u8) -> u8
     ensures { λ r. ⌜ r ≡ nextAfter answer at next ⌝ }
 {
     match answer {
-        SendAnswer::Sent(_) => (at % 16 + 1) % 16,
+        SendAnswer::Sent(_) => (at % PLACES + 1) % PLACES,
         SendAnswer::NotDue => next,
     }
 }

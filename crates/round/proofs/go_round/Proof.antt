@@ -1,15 +1,15 @@
 -- `round::go_round` meets its contract. The invariant: what is left of the turns gives what all of them
--- give (`Rest`), and a turn keeps it (`onward`). The measure is what is left of the 16.
+-- give (`Rest`), and a turn keeps it (`onward`). The measure is what is left of the places.
 --   left-is   what is left, by another name for the number of turns
 -- Assumes nothing.
-use Prim.Native.Nat.{ℕ, suc, _+_, _-_, _%_, _≤_, _<_}
-use mathlib.Core.Path.{_≡_, refl, sym, ap, _∙_, subst}
+use Prim.Native.Nat.{ℕ, _-_, _≤_, _<_}
+use mathlib.Core.Path.{_≡_, refl, _∙_, subst}
 use mathlib.Core.List.{List}
-use native.Mathlib.Nat.{mod-lt}
 use native.Mathlib.Omega.{arith}
 use lib.ListN.{length, length-set}
 use borrow.Author.Needs.{needs}
 use Rattle.clock.specs.declared.reading.VirtualLocalTime.{VirtualLocalTime}
+use Rattle.settings.specs.Node.{places}
 use Rattle.domain.specs.declared.Domain.{Domain}
 use Rattle.round.specs.Round.{Gone, roundOf}
 use Rattle.round.proofs.Rest.{getD-any, sent-least, Rest, onward, at-end}
@@ -18,11 +18,11 @@ use Rattle.round.proofs.go_round.Tie as tie
 
 abbrev Inv-loop : tie.InvT-loop
 Inv-loop first t most out₀ records₀ at₀ next₀ sent₀ turns₀ out records at next sent turns =
-    (turns ≤ 16) × (at < 16) × (sent ≤ turns) × (length records ≡ 16) × (length out ≡ length out₀)
-    × Rest (roundOf records₀ first t most) out₀ most t (16 - turns) at sent records next out
+    (turns ≤ places) × (at < places) × (sent ≤ turns) × (length records ≡ places) × (length out ≡ length out₀)
+    × Rest (roundOf records₀ first t most) out₀ most t (places - turns) at sent records next out
 
 abbrev μ-loop : tie.MeasureT-loop
-μ-loop first t most out₀ records₀ at₀ next₀ sent₀ turns₀ out records at next sent turns = 16 - turns
+μ-loop first t most out₀ records₀ at₀ next₀ sent₀ turns₀ out records at next sent turns = places - turns
 
 left-is :
     {whole : Gone} {first out : List ℕ} {most k j at sent next : ℕ} {t : VirtualLocalTime} {ds : List Domain} →
