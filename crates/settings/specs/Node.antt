@@ -3,6 +3,7 @@ use Prim.Native.Nat.{ℕ}
 use mathlib.Core.Bool.{Bool, true, cond, _&&_}
 use mathlib.Core.List.{List, [], _∷_}
 use Rattle.refusal.specs.declared.Refusal.the-variants.{Settings}
+use Rattle.refusal.specs.Numbers.{numberOf}
 use Rattle.settings.specs.declared.domain_settings.DomainSettings.{DomainSettings}
 use Rattle.settings.specs.declared.node_settings.NodeSettings.{NodeSettings}
 use Rattle.settings.specs.declared.node_settings.Verdict.{Verdict}
@@ -17,6 +18,11 @@ places = 16
 abbrev pub allGood : List DomainSettings → Bool
 allGood [] = true
 allGood (s ∷ rest) = isGood s && allGood rest
+
+-- ---- "0 is success."
+abbrev pub verdictNumber : Verdict → ℕ
+verdictNumber Good = 0
+verdictNumber (Refused refusal) = numberOf refusal
 
 -- ---- "S, SYNC frames per main cycle: 1 to 16", and 14 "settings out of range"
 abbrev pub judgedOf : NodeSettings → Verdict

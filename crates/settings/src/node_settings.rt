@@ -3,7 +3,7 @@ use crate::DomainSettings;
 use crate::ranges::is_good;
 use refusal::Refusal;
 ghost use mathlib.Core.Path.{_≡_};
-ghost use Rattle.settings.specs.Node.{allGood, judgedOf};
+ghost use Rattle.settings.specs.Node.{allGood, verdictNumber, judgedOf};
 
 pub struct NodeSettings {
     // S, SYNC frames per main cycle.
@@ -15,6 +15,18 @@ pub struct NodeSettings {
 pub enum Verdict {
     Good,
     Refused(Refusal),
+}
+
+impl Verdict {
+    // The paper's number.
+    pub fn number(self) -> u8
+        ensures { λ r. ⌜ r ≡ verdictNumber self ⌝ }
+    {
+        match self {
+            Verdict::Good => 0,
+            Verdict::Refused(refusal) => refusal.number(),
+        }
+    }
 }
 
 impl NodeSettings {

@@ -1,0 +1,1 @@
+-- No definition: `knottgust` passes names on.
