@@ -4,7 +4,10 @@ use clock::GlobalTime;
 use clock::TimeBase;
 use clock::TimeOrder;
 use clock::VirtualLocalTime;
-use libc::STDOUT_FILENO;
+use test_line::number;
+use test_line::signed;
+use test_line::word;
+use test_line::yes_no;
 
 fn main() {
     limits();
@@ -14,21 +17,9 @@ fn main() {
     thresholds();
 }
 
-fn word(text: &[u8]) {
-    io::write_all(STDOUT_FILENO, text);
-}
-
-fn number(n: u64) {
-    io::write_all(STDOUT_FILENO, b" ");
-    io::print_decimal(STDOUT_FILENO, n);
-}
-
 fn answer(yes: bool) {
-    if yes {
-        word(b" yes\n");
-    } else {
-        word(b" no\n");
-    }
+    yes_no(yes);
+    word(b"\n");
 }
 
 fn limits() {
@@ -137,15 +128,6 @@ fn difference(s: u64, n: u32, r: u64, m: u32) {
     }
     signed(clock::minus(a, b));
     word(b"\n");
-}
-
-fn signed(d: i64) {
-    if d < 0 {
-        word(b" -");
-    } else {
-        word(b" ");
-    }
-    io::print_decimal(STDOUT_FILENO, clock::magnitude(d));
 }
 
 fn thresholds() {

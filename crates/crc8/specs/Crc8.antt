@@ -1,9 +1,11 @@
 -- Paper 01, "Frames": the check byte, by polynomial steps. No table stands here. Assumes nothing.
-use Prim.Native.Nat.{ℕ, _*_, _%_}
+use Prim.Native.Nat.{ℕ, _*_, _%_, _<_}
+use mathlib.Core.Path.{_≡_}
 use mathlib.Core.Bool.{cond}
 use mathlib.Core.List.{List, [], _∷_, _++_, foldl}
 use lib.Bits.{bitXor}
 use lib.Dec.{leb}
+use lib.ListN.{getD}
 
 -- ---- "polynomial 0x2F", "not reflected"
 -- one polynomial step: the remainder doubles within 8 bits, and the polynomial is taken off exactly
@@ -30,3 +32,7 @@ crcOf bytes = bitXor (remainderOf 0xFF bytes) 0xFF
 -- ---- "over bytes 2 to 7 and then the DataID"
 unfoldable pub checkOf : List ℕ → ℕ → ℕ
 checkOf bytes dataId = crcOf (bytes ++ (dataId ∷ []))
+
+-- ---- "a constant table of 256 bytes, whose rule is stated over all of it"
+abbrev pub EightStepsEach : List ℕ → Type 0
+EightStepsEach table = (index : ℕ) → index < 256 → getD table index 0 ≡ eightStepsOf index

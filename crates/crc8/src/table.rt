@@ -1,7 +1,7 @@
 // Paper 01, "Frames": "a constant table of 256 bytes, whose rule is stated over all of it". The
-// rule is the promise of `entry`, by which every look-up goes.
+// rule is the promise of `entries`, by which every look-up goes.
 ghost use mathlib.Core.Path.{_≡_};
-ghost use Rattle.crc8.specs.Crc8.{eightStepsOf};
+ghost use Rattle.crc8.specs.Crc8.{eightStepsOf, EightStepsEach};
 
 // A comment has the index of the entry below it.
 const TABLE: [u8; 256] = [
@@ -279,9 +279,25 @@ const TABLE: [u8; 256] = [
     0x42,
 ];
 
-// What the table holds at `index`: eight polynomial steps of it.
+// The table whole: at each index eight polynomial steps of it. A constant array is made anew where it is read, so
+// a caller takes the table once and lends it to its look-ups.
+pub(crate) fn entries() -> [u8; 256]
+    ensures { λ r. ⌜ EightStepsEach r ⌝ }
+{
+    TABLE
+}
+
+// What a lent table holds at `index`.
+pub(crate) fn look_up(table: &[u8; 256], index: u8) -> u8
+    requires { ⌜ EightStepsEach (now table) ⌝ }
+    ensures { λ r. ⌜ r ≡ eightStepsOf index ⌝ }
+{
+    table[index as usize]
+}
+
+// What the table holds at `index`.
 pub fn entry(index: u8) -> u8
     ensures { λ r. ⌜ r ≡ eightStepsOf index ⌝ }
 {
-    TABLE[index as usize]
+    look_up(&entries(), index)
 }

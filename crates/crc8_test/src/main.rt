@@ -2,7 +2,9 @@
 // at the edges. A line is the input in hexadecimal, the DataID where there is one, and the answer.
 ghost use mathlib.Core.Path.{_≡_};
 ghost use lib.ListN.{length};
-use libc::STDOUT_FILENO;
+use test_line::byte;
+use test_line::hex;
+use test_line::word;
 
 fn main() {
     published();
@@ -69,27 +71,25 @@ fn crc(bytes: &[u8]) {
 }
 
 fn long_crc() {
-    io::write_all(STDOUT_FILENO, b"long 300");
+    word(b"long 300");
     answer(crc8::crc(&long()));
 }
 
 fn check(bytes: &[u8], data_id: u8) {
     input(bytes);
-    space();
     byte(data_id);
     answer(crc8::check(bytes, data_id));
 }
 
 fn entry(index: u8) {
-    io::write_all(STDOUT_FILENO, b"entry ");
+    word(b"entry");
     byte(index);
     answer(crc8::entry(index));
 }
 
 fn byte_step(remainder: u8, next: u8) {
-    io::write_all(STDOUT_FILENO, b"byte_step ");
+    word(b"byte_step");
     byte(remainder);
-    space();
     byte(next);
     answer(crc8::byte_step(remainder, next));
 }
@@ -97,33 +97,16 @@ fn byte_step(remainder: u8, next: u8) {
 // ---- their parts
 
 fn answer(value: u8) {
-    space();
     byte(value);
-    io::write_all(STDOUT_FILENO, b"\n");
+    word(b"\n");
 }
 
 fn input(bytes: &[u8]) {
     if bytes.len() == 0 {
-        io::write_all(STDOUT_FILENO, b"empty");
+        word(b"empty");
     } else {
         hex(bytes);
     }
-}
-
-fn hex(bytes: &[u8]) {
-    let mut i = 0;
-    while i < bytes.len() {
-        byte(bytes[i]);
-        i += 1;
-    }
-}
-
-fn byte(value: u8) {
-    io::print_hex(STDOUT_FILENO, value as u64, 2);
-}
-
-fn space() {
-    io::write_all(STDOUT_FILENO, b" ");
 }
 
 // The numbers from 0 to 299, modulo 256.

@@ -1,13 +1,14 @@
 // A frame written into a lent buffer. A line is the buffer, the place, the answer, and the buffer
 // after it.
 use crate::inputs::ids;
-use crate::line;
+use crate::shown;
 use frame::Frame;
 use frame::Fup;
 use frame::Protection;
 use frame::Sync;
 use frame_write::Written;
 use frame_write::write_frame;
+use test_line as line;
 
 // The last place with room in 12 bytes is 4. From `usize::MAX - 7` on, 8 more would wrap.
 pub fn lent() {
@@ -33,14 +34,14 @@ fn twelve(frame: Frame, at: usize) {
 
 fn into(frame: Frame, out: &mut [u8], at: usize) {
     line::word(b"buffer");
-    line::bytes(out);
+    shown::bytes(out);
     line::word(b" at");
     line::number(at as u64);
     match write_frame(frame, ids(), out, at) {
         Written::Done => line::word(b" done"),
         Written::NoRoom => line::word(b" no-room"),
     }
-    line::bytes(out);
+    shown::bytes(out);
     line::word(b"\n");
 }
 

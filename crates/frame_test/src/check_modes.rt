@@ -1,8 +1,9 @@
 // Whether a frame is good under each of the four check modes. A line is the bytes and the verdicts.
 use crate::inputs::eight;
 use crate::inputs::ids;
-use crate::line;
+use crate::shown;
 use frame_check::CheckMode;
+use test_line as line;
 
 // A plain SYNC and a plain FUP; then a secured SYNC and a secured FUP, each with the right check
 // byte, with one bit of it off, the lowest and the highest, and with that of the other kind's list.
@@ -62,22 +63,14 @@ fn good(n: u64) {
 
 fn good_bytes(bytes: &[u8]) {
     line::word(b"good");
-    line::bytes(bytes);
+    shown::bytes(bytes);
     line::word(b" validated");
-    verdict(CheckMode::Validated.takes(bytes, ids()));
+    line::yes_no(CheckMode::Validated.takes(bytes, ids()));
     line::word(b" not-validated");
-    verdict(CheckMode::NotValidated.takes(bytes, ids()));
+    line::yes_no(CheckMode::NotValidated.takes(bytes, ids()));
     line::word(b" ignored");
-    verdict(CheckMode::Ignored.takes(bytes, ids()));
+    line::yes_no(CheckMode::Ignored.takes(bytes, ids()));
     line::word(b" optional");
-    verdict(CheckMode::Optional.takes(bytes, ids()));
+    line::yes_no(CheckMode::Optional.takes(bytes, ids()));
     line::word(b"\n");
-}
-
-fn verdict(yes: bool) {
-    if yes {
-        line::word(b" yes");
-    } else {
-        line::word(b" no");
-    }
 }

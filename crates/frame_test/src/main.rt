@@ -4,8 +4,8 @@
 mod buffers;
 mod check_modes;
 mod inputs;
-mod line;
 mod reads;
+mod shown;
 mod writes;
 
 fn main() {

@@ -2,11 +2,12 @@
 // looked at first, or the type. A round trip has the bytes that are written of the values too.
 use crate::inputs::eight;
 use crate::inputs::ids;
-use crate::line;
+use crate::shown;
 use frame::Frame;
 use frame_read::Read;
 use frame_read::read_frame;
 use frame_write::frame_bytes;
+use test_line as line;
 
 // Paper 01's own frames first; then plain and secured ones at the ends of each field.
 pub fn syncs() {
@@ -97,9 +98,9 @@ fn read(n: u64) {
 
 fn read_bytes(bytes: &[u8]) {
     line::word(b"read");
-    line::bytes(bytes);
+    shown::bytes(bytes);
     match read_frame(bytes) {
-        Read::Values(frame) => line::values(frame),
+        Read::Values(frame) => shown::values(frame),
         Read::LengthNot8 => line::word(b" length"),
         Read::NoSuchType => line::word(b" type"),
     }
@@ -109,7 +110,7 @@ fn read_bytes(bytes: &[u8]) {
 fn round(n: u64) {
     let bytes = eight(n);
     line::word(b"round");
-    line::bytes(&bytes);
+    shown::bytes(&bytes);
     match read_frame(&bytes) {
         Read::Values(frame) => back(frame),
         Read::LengthNot8 => line::word(b" length"),
@@ -119,6 +120,6 @@ fn round(n: u64) {
 }
 
 fn back(frame: Frame) {
-    line::values(frame);
-    line::frame_bytes(&frame_bytes(frame, ids()));
+    shown::values(frame);
+    shown::frame_bytes(&frame_bytes(frame, ids()));
 }

@@ -1,12 +1,13 @@
 // Values to bytes. A line is the values and the bytes. Each kind has the ends of every field, the
 // byte order of the wide one, and values out of range, which are written modulo the range.
 use crate::inputs::ids;
-use crate::line;
+use crate::shown;
 use frame::Frame;
 use frame::Fup;
 use frame::Protection;
 use frame::Sync;
 use frame_write::frame_bytes;
+use test_line as line;
 
 // Paper 01's own frames first. Domain, counter, user byte 0, user byte 1, seconds.
 pub fn plain_syncs() {
@@ -140,7 +141,7 @@ fn secured_fup(domain: u8, counter: u8, sgw: bool, ovs: u8, nanoseconds: u32) {
 
 fn written(frame: Frame) {
     line::word(b"write");
-    line::values(frame);
-    line::frame_bytes(&frame_bytes(frame, ids()));
+    shown::values(frame);
+    shown::frame_bytes(&frame_bytes(frame, ids()));
     line::word(b"\n");
 }

@@ -3,7 +3,6 @@
 // seconds.nanoseconds@reading; user bytes are written in hexadecimal, the other numbers in decimal.
 mod confirms;
 mod inputs;
-mod line;
 mod record;
 mod sends;
 mod sets;

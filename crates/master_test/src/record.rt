@@ -1,32 +1,18 @@
 // A record by what a master's steps change, and the frames it sends.
-use crate::line;
-use clock::Held;
 use domain::Domain;
 use domain::Sending;
 use frame::Fup;
 use frame::Protection;
 use frame::Sync;
 use refusal::Refusal;
+use test_line as line;
 
 pub fn shown(d: Domain) {
     let base = d.base;
     let sending = d.sending;
-    based(base);
+    line::base(base);
     sent(sending);
     ended(d.updates, d.next_counter);
-}
-
-fn based(base: Held) {
-    match base {
-        Held::Unset => line::word(b"; base unset"),
-        Held::Set(set) => {
-            let time = set.time;
-            let at = set.at;
-            line::word(b"; base");
-            line::time(time.0, time.1);
-            line::reading(at.0);
-        }
-    }
 }
 
 fn sent(sending: Sending) {
@@ -39,7 +25,7 @@ fn sent(sending: Sending) {
             at,
         } => {
             line::word(b"; open");
-            line::number(counter as u64);
+            line::small(counter);
             line::time(seconds as u64, nanoseconds);
             line::reading(at.0);
         }
@@ -52,22 +38,22 @@ fn sent(sending: Sending) {
 
 fn ended(updates: u8, next_counter: u8) {
     line::word(b"; updates");
-    line::number(updates as u64);
+    line::small(updates);
     line::word(b" next");
-    line::number(next_counter as u64);
-    line::letter(b'\n');
+    line::small(next_counter);
+    line::word(b"\n");
 }
 
 pub fn refused(refusal: Refusal) {
     line::word(b": refused");
-    line::number(refusal.number() as u64);
+    line::small(refusal.number());
 }
 
 pub fn sync(s: Sync) {
     let protection = s.protection;
     line::word(b": sync");
-    line::number(s.domain as u64);
-    line::number(s.counter as u64);
+    line::small(s.domain);
+    line::small(s.counter);
     line::number(s.seconds as u64);
     line::byte(s.user0);
     protected(protection);
@@ -76,8 +62,8 @@ pub fn sync(s: Sync) {
 pub fn fup(f: Fup) {
     let protection = f.protection;
     line::word(b": fup");
-    line::number(f.domain as u64);
-    line::number(f.counter as u64);
+    line::small(f.domain);
+    line::small(f.counter);
     line::time(f.ovs as u64, f.nanoseconds);
     gateway(f.sgw);
     protected(protection);

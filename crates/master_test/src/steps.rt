@@ -1,6 +1,5 @@
 // The steps, each of which writes its line and gives the record back.
 use crate::inputs;
-use crate::line;
 use crate::record;
 use clock::VirtualLocalTime;
 use domain::Domain;
@@ -13,6 +12,7 @@ use master_set::SetAnswer;
 use master_set::set_time;
 use settings::Role;
 use settings::Security;
+use test_line as line;
 
 // ---- a fresh record, of domain 3
 
@@ -67,7 +67,7 @@ pub fn sent(d: Domain, t: u64) -> Domain {
 
 pub fn confirmed(d: Domain, t: u64, counter: u8) -> Domain {
     line::word(b"confirm");
-    line::number(counter as u64);
+    line::small(counter);
     line::reading(t);
     let step = confirm(d, VirtualLocalTime(t), counter);
     let answer = step.answer;

@@ -1,12 +1,13 @@
 // What is held. A line is the settings by all their fields, first as given, then as held. No number
 // stands twice in those given, and none is 0 but the first of a mode or of a kind.
-use crate::line;
+use crate::fields;
 use frame::DataIds;
 use frame_check::CheckMode;
 use settings::DomainSettings;
 use settings::Role;
 use settings::Security;
 use settings::UserBytes;
+use test_line as line;
 
 pub fn roles() {
     held(Role::Slave, CheckMode::Validated, Security::Secured);
@@ -51,7 +52,7 @@ fn held(role: Role, mode: CheckMode, security: Security) {
 }
 
 fn whole(s: DomainSettings) {
-    line::numbers(s);
-    line::others(s);
+    fields::numbers(s);
+    fields::others(s);
     line::word(b"\n");
 }

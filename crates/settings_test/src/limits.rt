@@ -1,7 +1,7 @@
 // The limits of the ranges.
-use crate::line;
 use settings::DomainSettings;
 use settings::NodeSettings;
+use test_line as line;
 
 // The limits as the library names them.
 pub fn limits() {

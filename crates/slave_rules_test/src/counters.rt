@@ -1,10 +1,10 @@
 // The counter check. A line is J, L, the last counter, the reading, and the verdicts on the counters
 // 0 to 15: f for free, g for good, n for not good.
-use crate::line;
 use clock::VirtualLocalTime;
 use domain::LastSync;
 use slave_counter::CounterVerdict;
 use slave_counter::judge_counter;
+use test_line as line;
 
 // From the ends and the middle, within L; then widths and counters that no settings and no frame have.
 pub fn widths() {

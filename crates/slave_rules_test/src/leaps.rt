@@ -1,7 +1,7 @@
 // Leaps: D against the two thresholds.
-use crate::line;
 use domain::Leap;
 use slave_update::leap_of;
+use test_line as line;
 
 // D at both sides of each threshold, thresholds of 0, and the ends of all three. A line is the future
 // threshold, the past one, and D.

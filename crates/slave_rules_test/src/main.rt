@@ -2,7 +2,6 @@
 // each threshold of a leap.
 mod counters;
 mod leaps;
-mod line;
 
 fn main() {
     counters::widths();

@@ -3,7 +3,6 @@
 // seconds.nanoseconds@reading; user bytes are written in hexadecimal, the other numbers in decimal.
 mod cases;
 mod inputs;
-mod line;
 mod record;
 mod steps;
 

@@ -1,11 +1,10 @@
 // A record by what a slave's steps change, and an answer.
-use crate::line;
-use clock::Held;
 use domain::Domain;
 use domain::LastSync;
 use domain::Leap;
 use domain::Pairing;
 use slave_answer::FrameAnswer;
+use test_line as line;
 
 pub fn answered(answer: FrameAnswer) {
     match answer {
@@ -17,7 +16,7 @@ pub fn answered(answer: FrameAnswer) {
         }
         FrameAnswer::Refused(refusal) => {
             line::word(b": refused");
-            line::number(refusal.number() as u64);
+            line::small(refusal.number());
         }
     }
 }
@@ -28,7 +27,7 @@ pub fn shown(d: Domain) {
     let last = d.last;
     let user = d.user;
     let leap = d.leap;
-    based(base);
+    line::base(base);
     paired(pairing);
     seen(last);
     line::word(b"; user");
@@ -36,24 +35,11 @@ pub fn shown(d: Domain) {
     line::byte(user.1);
     line::byte(user.2);
     line::word(b" sgw");
-    line::flag(d.sgw);
+    line::small(d.sgw as u8);
     leapt(leap);
     line::word(b" updates");
     line::small(d.updates);
-    line::letter(b'\n');
-}
-
-fn based(base: Held) {
-    match base {
-        Held::Unset => line::word(b"; base unset"),
-        Held::Set(set) => {
-            let time = set.time;
-            let at = set.at;
-            line::word(b"; base");
-            line::time(time.0, time.1);
-            line::reading(at.0);
-        }
-    }
+    line::word(b"\n");
 }
 
 fn paired(pairing: Pairing) {

@@ -1,6 +1,5 @@
 // The steps, each of which writes its line and gives the record back.
 use crate::inputs;
-use crate::line;
 use crate::record;
 use clock::VirtualLocalTime;
 use domain::Domain;
@@ -13,6 +12,7 @@ use slave_frame::take_frame;
 use slave_fup::take_fup;
 use slave_status::status_at;
 use slave_sync::take_sync;
+use test_line as line;
 
 // ---- a fresh record, of domain 1
 
@@ -90,9 +90,9 @@ pub fn no_frame(d: Domain, bytes: &[u8]) -> Domain {
 pub fn status(d: Domain, t: u64) {
     line::word(b"status");
     line::reading(t);
-    line::letter(b':');
+    line::word(b":");
     line::byte(status_at(d, VirtualLocalTime(t)));
-    line::letter(b'\n');
+    line::word(b"\n");
 }
 
 // ---- the end of a line

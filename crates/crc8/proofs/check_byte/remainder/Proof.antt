@@ -11,20 +11,20 @@ use Rattle.crc8.proofs.check_byte.remainder.Statement.{statement}
 use Rattle.crc8.proofs.check_byte.remainder.Tie as tie
 
 abbrev Inv-loop : tie.InvT-loop
-Inv-loop start bytes r₀ i₀ r i =
+Inv-loop table start bytes r₀ i₀ r i =
     (i ≤ length bytes) × (remainderOf r (drop i bytes) ≡ remainderOf start bytes)
 
 abbrev μ-loop : tie.MeasureT-loop
-μ-loop start bytes r₀ i₀ r i = length bytes - i
+μ-loop table start bytes r₀ i₀ r i = length bytes - i
 
 loop-holds : tie.Need-loop-holds Inv-loop μ-loop
 loop-holds c = search needs
 
-shared-slice-read-byte-step : tie.Need-shared-slice-read-byte-step Inv-loop μ-loop
-shared-slice-read-byte-step c = search needs
+shared-slice-read-step : tie.Need-shared-slice-read-step Inv-loop μ-loop
+shared-slice-read-step c = search needs
 
-byte-step-requires : tie.Need-byte-step-requires Inv-loop μ-loop
-byte-step-requires c κs = search needs
+step-requires : tie.Need-step-requires Inv-loop μ-loop
+step-requires c κs = search needs
 
 add-i : tie.Need-add-i Inv-loop μ-loop
 add-i c = search needs
@@ -37,7 +37,7 @@ loop-again c =
     let at = c .before .before .before in
     let bytes = at .before .before .args .bytes .now in
     let ahead = rw (drop-cons bytes (at .loop .i) 0 (search needs)) at (at .loop .inv .1) in
-    (search needs, rw (add-one, c .byte-step .ensures) ahead)
+    (search needs, rw (add-one, c .step .ensures) ahead)
 
 returns : tie.Need-returns Inv-loop μ-loop
 returns c =
@@ -52,8 +52,8 @@ remainder-spec =
     Inv-loop
     μ-loop
     loop-holds
-    shared-slice-read-byte-step
-    byte-step-requires
+    shared-slice-read-step
+    step-requires
     add-i
     loop-less
     loop-again

@@ -1,19 +1,13 @@
-// The parts of a line: words, numbers, bytes, and the values of a frame, which are those that its
-// kind carries.
+// A frame as a line has it: by its bytes, and by its values, which are those that its kind carries.
 use frame::Frame;
 use frame::Fup;
 use frame::Protection;
 use frame::Sync;
-use libc::STDOUT_FILENO;
-
-pub fn word(text: &[u8]) {
-    io::write_all(STDOUT_FILENO, text);
-}
-
-pub fn number(n: u64) {
-    word(b" ");
-    io::print_decimal(STDOUT_FILENO, n);
-}
+use test_line::byte;
+use test_line::hex;
+use test_line::number;
+use test_line::small;
+use test_line::word;
 
 pub fn bytes(list: &[u8]) {
     if list.len() == 0 {
@@ -82,8 +76,8 @@ fn user2(protection: Protection) {
 }
 
 fn domain_and_counter(domain: u8, counter: u8) {
-    number(domain as u64);
-    number(counter as u64);
+    small(domain);
+    small(counter);
 }
 
 fn flags(sgw: bool, ovs: u8) {
@@ -92,22 +86,5 @@ fn flags(sgw: bool, ovs: u8) {
     } else {
         word(b" sgw 0 ovs");
     }
-    number(ovs as u64);
-}
-
-fn byte(value: u8) {
-    word(b" ");
-    digits(value);
-}
-
-fn hex(list: &[u8]) {
-    let mut i = 0;
-    while i < list.len() {
-        digits(list[i]);
-        i += 1;
-    }
-}
-
-fn digits(value: u8) {
-    io::print_hex(STDOUT_FILENO, value as u64, 2);
+    small(ovs);
 }

@@ -1,15 +1,15 @@
--- `frame_test::line::hex` is safe and ends: the index stays within the bytes. Assumes nothing.
+-- `test_line::hex` is safe and ends: the index stays within the bytes. Assumes nothing.
 use Prim.Native.Nat.{_-_, _≤_}
 use lib.ListN.{length}
 use borrow.Author.Needs.{needs}
-use Rattle.frame_test.proofs.line.hex.Statement.{statement}
-use Rattle.frame_test.proofs.line.hex.Tie as tie
+use Rattle.test_line.proofs.hex.Statement.{statement}
+use Rattle.test_line.proofs.hex.Tie as tie
 
 abbrev Inv-loop : tie.InvT-loop
-Inv-loop list i₀ i = i ≤ length list
+Inv-loop bytes i₀ i = i ≤ length bytes
 
 abbrev μ-loop : tie.MeasureT-loop
-μ-loop list i₀ i = length list - i
+μ-loop bytes i₀ i = length bytes - i
 
 loop-holds : tie.Need-loop-holds Inv-loop μ-loop
 loop-holds c = search needs

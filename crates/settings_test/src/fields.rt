@@ -1,26 +1,21 @@
-// The parts of a line: words, numbers, bytes, and settings by their fields.
+// Settings by their fields.
 use frame_check::CheckMode;
-use libc::STDOUT_FILENO;
 use settings::DomainSettings;
 use settings::Role;
 use settings::Security;
 use settings::UserBytes;
-
-pub fn word(text: &[u8]) {
-    io::write_all(STDOUT_FILENO, text);
-}
-
-pub fn number(n: u64) {
-    word(b" ");
-    io::print_decimal(STDOUT_FILENO, n);
-}
+use test_line::byte;
+use test_line::hex;
+use test_line::number;
+use test_line::small;
+use test_line::word;
 
 // The role, and the fields that have a range.
 pub fn numbers(s: DomainSettings) {
     let role = s.role;
     named(role);
     word(b" J");
-    number(s.jump_width as u64);
+    small(s.jump_width);
     word(b" F");
     number(s.follow_up_time);
     word(b" L");
@@ -77,34 +72,13 @@ fn kind(security: Security) {
 }
 
 fn user_bytes(user: UserBytes) {
-    word(b" user ");
-    digits(user.0);
-    word(b" ");
-    digits(user.1);
-    word(b" ");
-    digits(user.2);
+    word(b" user");
+    byte(user.0);
+    byte(user.1);
+    byte(user.2);
 }
 
 fn list(ids: [u8; 16]) {
     word(b" ");
-    digits(ids[0]);
-    digits(ids[1]);
-    digits(ids[2]);
-    digits(ids[3]);
-    digits(ids[4]);
-    digits(ids[5]);
-    digits(ids[6]);
-    digits(ids[7]);
-    digits(ids[8]);
-    digits(ids[9]);
-    digits(ids[10]);
-    digits(ids[11]);
-    digits(ids[12]);
-    digits(ids[13]);
-    digits(ids[14]);
-    digits(ids[15]);
-}
-
-fn digits(value: u8) {
-    io::print_hex(STDOUT_FILENO, value as u64, 2);
+    hex(&ids);
 }
