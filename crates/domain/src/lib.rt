@@ -1,4 +1,4 @@
-// One domain's record (papers 01, "A slave's domain" and "A master's domain"): its number, what it
+// One domain's record (paper 01, "A slave's domain" and "A master's domain"): its number, what it
 // holds of its settings, its base, and what its role adds. What is not there is a case of an enum and
 // no flag beside a value, so no two fresh records differ in what nobody sees. A constructor stands
 // here, and the one rule that both roles share; `slave_sync`, `master_set` and the like have the others.
@@ -62,6 +62,7 @@ pub struct Domain {
     pub user: UserBytes,
     pub sgw: bool,
     pub leap: Leap,
+    // The update counter of either role.
     pub updates: u8,
     // The counter that a master sends next.
     pub next_counter: u8,

@@ -8,10 +8,10 @@ use Rattle.frame.specs.declared.data_ids.DataIds.{DataIds}
 use Rattle.frame_check.specs.declared.CheckMode.the-variants.{Validated, NotValidated}
 use Rattle.settings.specs.declared.domain_settings.DomainSettings.{DomainSettings}
 use Rattle.settings.specs.declared.domain_settings.Security.the-variants.{Plain, Secured}
-use Rattle.node_call.specs.Calls.{frame, read, set, cycle, confirm}
+use Rattle.node_call.specs.Calls.{read, set, cycle}
 use Rattle.history.specs.History.{Link, Event, atMaster, atSlave, History}
 use Rattle.history.specs.Demand.{Copy}
-use Rattle.history_day.specs.Settings.{copyOf, masterFor, slaveFor, absents, noIds, millis, ms}
+use Rattle.history_day.specs.Settings.{arrives, confirmsIn, copyOf, masterFor, slaveFor, absents, noIds, millis, ms}
 
 -- ---- domain 5: P 1 s, C 200 ms, secured; J 1, F 300 ms, L 2.5 s, validated; the same DataIDs
 abbrev dayIds : DataIds
@@ -83,10 +83,7 @@ abbrev cycles : (t : ℕ) → Event
 cycles t = atMaster (cycle (ms t) (replicate 16 0))
 
 abbrev confirms : (t counter : ℕ) → Event
-confirms t counter = atMaster (confirm 5 (ms t) counter (replicate 8 0))
-
-abbrev arrives : (t : ℕ) → List ℕ → Event
-arrives t bytes = atSlave (frame (ms t) bytes)
+confirms t counter = confirmsIn 5 t counter
 
 -- ---- The domain is set, sends, is set again before the confirmation; the pair arrives, and its FUP once more.
 abbrev firstPair : History

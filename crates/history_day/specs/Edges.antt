@@ -7,10 +7,10 @@ use lib.ListN.{replicate, set as put}
 use Rattle.clock.specs.declared.base.TimeBase.{TimeBase}
 use Rattle.frame_check.specs.declared.CheckMode.the-variants.{NotValidated}
 use Rattle.settings.specs.declared.domain_settings.Security.the-variants.{Plain}
-use Rattle.node_call.specs.Calls.{frame, set, cycle, confirm}
-use Rattle.history.specs.History.{Link, Event, atMaster, atSlave, History}
+use Rattle.node_call.specs.Calls.{set, cycle}
+use Rattle.history.specs.History.{Link, Event, atMaster, History}
 use Rattle.history.specs.Demand.{Copy}
-use Rattle.history_day.specs.Settings.{copyOf, masterFor, slaveFor, absents, noIds, millis, ms}
+use Rattle.history_day.specs.Settings.{arrives, confirmsIn, copyOf, masterFor, slaveFor, absents, noIds, millis, ms}
 
 -- ---- domain 0, plain frames, P 100 ms, J 1, L 2 s, one clock; E, F and C in milliseconds
 abbrev edgeWith : (e f c : ℕ) → Link
@@ -42,10 +42,7 @@ syncs first (suc count) =
     atMaster (cycle (ms (1000 + 100 * (first + count))) (replicate 8 0)) ∷ syncs first count
 
 abbrev confirms : (t counter : ℕ) → Event
-confirms t counter = atMaster (confirm 0 (ms t) counter (replicate 8 0))
-
-abbrev arrives : (t : ℕ) → List ℕ → Event
-arrives t bytes = atSlave (frame (ms t) bytes)
+confirms t counter = confirmsIn 0 t counter
 
 -- ---- SYNC 0, of 1000.0 s, and SYNC 16, of 1001.6 s
 abbrev sync0 : List ℕ

@@ -1,5 +1,5 @@
--- Paper 01, "Settings of a node": those of the day and of the edges, and a reading in milliseconds. Assumes
--- nothing.
+-- Paper 01, "Settings of a node": those of the day and of the edges; a reading in milliseconds, and the calls that they
+-- share. Assumes nothing.
 use Prim.Native.Nat.{ℕ, _*_}
 use mathlib.Core.List.{List}
 use lib.ListN.{replicate}
@@ -14,6 +14,8 @@ use Rattle.settings.specs.declared.domain_settings.Security.the-variants.{Plain
 use Rattle.settings.specs.declared.domain_settings.UserBytes.{UserBytes}
 use Rattle.settings.specs.Domain.{absentHeld}
 use Rattle.settings.specs.Node.{places}
+use Rattle.node_call.specs.Calls.{frame, confirm}
+use Rattle.history.specs.History.{Event, atMaster, atSlave}
 use Rattle.history.specs.Demand.{Copy}
 
 -- ---- a master: P, C, plain or secured, its user bytes, its DataIDs
@@ -73,3 +75,10 @@ copyOf bytes sent arrived seconds nanoseconds =
       of = record { bytes = bytes; at = ms sent; time = record { 0 = seconds; 1 = nanoseconds } };
       at = ms arrived;
     }
+
+-- ---- a frame call of the slave, and a confirmation of the master
+abbrev pub arrives : (t : ℕ) → List ℕ → Event
+arrives t bytes = atSlave (frame (ms t) bytes)
+
+abbrev pub confirmsIn : (domain t counter : ℕ) → Event
+confirmsIn domain t counter = atMaster (confirm domain (ms t) counter (replicate 8 0))

@@ -1,6 +1,7 @@
 // A SYNC from a master's record (paper 01, "A master's domain"): when it is due, and sending it. The
 // step answers, and gives the record back by value, as it was where it is not due. The frame is answered
-// as values; whoever has the buffer writes it. Only here is the role looked at.
+// as values; whoever has the buffer writes it. Of the steps on a record this one alone asks for the role, since a main
+// cycle passes over all records.
 use clock::VirtualLocalTime;
 use domain::Domain;
 use domain::Sending;

@@ -1,7 +1,6 @@
-// A node (paper 01): sixteen records, the kept reading, S and the round, with its constructor. Its calls are
-// functions of their own crates (`node_frame`, `node_read`, `node_set`, `node_cycle`, `node_confirm`), state by
-// value in and out. Each looks a record up, calls it or goes round, and stores what comes back. No call has
-// a `requires`; each answers, or refuses by a number, and then gives the node back as it was.
+// A node (paper 01): sixteen records, the kept reading, S and the round, with its constructor. Its calls have a file
+// each, state by value in and out: a call looks a record up, calls it or goes round, and stores what comes back. No
+// call has a `requires`; each answers, or refuses by a number, and then gives the node back as it was.
 pub mod confirms;
 pub mod cycles;
 pub mod frames;

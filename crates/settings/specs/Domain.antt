@@ -7,7 +7,7 @@ use Rattle.settings.specs.declared.domain_settings.Role.{Role}
 use Rattle.settings.specs.declared.domain_settings.Role.the-variants.{Absent, Slave, Master}
 use Rattle.settings.specs.declared.domain_settings.Security.the-variants.{Plain}
 
--- ---- "What isn't read is held as 0."
+-- ---- "What isn't read is held as 0.": of an enum the first case, which the type has as 0
 abbrev pub absentHeld : DomainSettings
 absentHeld =
     record {
