@@ -34,7 +34,8 @@ fn sync(s: Sync) {
     let protection = s.protection;
     word(b" sync");
     kind(protection);
-    domain_and_counter(s.domain, s.counter);
+    small(s.domain);
+    small(s.counter);
     word(b" user");
     byte(s.user0);
     user1(protection);
@@ -46,7 +47,8 @@ fn fup(f: Fup) {
     let protection = f.protection;
     word(b" fup");
     kind(protection);
-    domain_and_counter(f.domain, f.counter);
+    small(f.domain);
+    small(f.counter);
     user2(protection);
     flags(f.sgw, f.ovs);
     word(b" nanoseconds");
@@ -73,11 +75,6 @@ fn user2(protection: Protection) {
         word(b" user");
         byte(user);
     }
-}
-
-fn domain_and_counter(domain: u8, counter: u8) {
-    small(domain);
-    small(counter);
 }
 
 fn flags(sgw: bool, ovs: u8) {
