@@ -1,14 +1,14 @@
 -- The round serves the first S due domains, and only these: `roundOf` is a round as `FirstDue` tells it, and
 -- there is no other. No contract cites this file.
 --   goes-told        the turns of a round, told by the places they serve
+--   round-frames     the frames of a round are those of the served, of the records as they stood before it
+--   round-next       the next round starts after the last of them
 --   served-apart     no place is served twice
 --   served-below     each that is served is a place of the node
 --   served-due       and is due
 --   served-count     their number is that of the due domains, at most S
 --   served-full      a due domain is passed over only where S others are served
---   round-frames     the frames of a round are those of the served, of the records as they stood before it
---   round-next       the next round starts after the last of them
---   round-count      the number of its frames
+--   round-count      as many frames are sent
 --   first-due        the round is as `FirstDue` tells it
 --   serves-only      the places that are served fix a round
 --   first-due-only   so that no other is as `FirstDue` tells it
@@ -130,52 +130,28 @@ module _ (t : VirtualLocalTime) where
       (λ s l n. goes-told most k (nextPlace places at) s l n (omega arith) (mod-lt (at + 1) (omega arith)))
       (ltb sent most) refl
 
--- ---- what is served
+-- ---- the frames of a round, and where the next one starts
+
+begun : (first : ℕ) → first % places < places
+begun first = mod-lt first (omega arith)
 
 module _ (ds : List Domain) (first : ℕ) (t : VirtualLocalTime) (most : ℕ) where
-  abbrev isDueAt : ℕ → Bool
-  isDueAt p = isDue (recordAt ds p) t
+  round-told :
+      roundOf ds first t most
+      ≡ gone (toldOf places none (due t) (serve t) (say t) (servedOf ds first t most) ds first)
+  round-told =
+      goes-told t most places (first % places) 0 ds first (omega arith) (begun first)
+      ∙ ap (λ (j : ℕ). gone (toldBy t j (walk places places (first % places)) ds first)) (sub-zero most)
 
-  abbrev way : List ℕ
-  way = walk places places (first % places)
+  pub round-frames :
+      roundOf ds first t most .frames
+      ≡ flatMap (λ (p : ℕ). frameBy (recordAt ds p) t) (servedOf ds first t most)
+  round-frames = ap (λ (g : Gone). g .frames) round-told
 
-  abbrev lined : List ℕ
-  lined = dueAmong isDueAt way
+  pub round-next : roundOf ds first t most .next ≡ nextBehind places (servedOf ds first t most) first
+  round-next = ap (λ (g : Gone). g .next) round-told
 
-  begun : first % places < places
-  begun = mod-lt first (omega arith)
-
-  pub served-apart : AllApart (servedOf ds first t most)
-  served-apart =
-      apart-take most lined (apart-due isDueAt way (walk-apart places places (first % places) (omega arith) begun))
-
-  pub served-below : Each (λ (p : ℕ). p < places) (servedOf ds first t most)
-  served-below =
-      each-take (λ (p : ℕ). p < places) most lined
-      (each-due (λ (p : ℕ). p < places) isDueAt way (walk-below places places (first % places) begun))
-
-  pub served-due : Each (λ (p : ℕ). isDue (recordAt ds p) t ≡ true) (servedOf ds first t most)
-  served-due = each-take (λ (p : ℕ). isDueAt p ≡ true) most lined (due-true isDueAt way)
-
-  pub served-count :
-      length (servedOf ds first t most) ≡ min most (sumBelow (λ (p : ℕ). cond (isDue (recordAt ds p) t) 1 0) places)
-  served-count =
-      length-take most lined
-      ∙ ap (min most) (due-sum isDueAt way ∙ walk-sum places (λ (p : ℕ). cond (isDueAt p) 1 0) (first % places) begun)
-
-  module _ (p : ℕ) (b : p < places) (d : isDue (recordAt ds p) t ≡ true) where
-    full-if :
-        (all : Bool) → leb (length lined) most ≡ all → NotIn p (take most lined) → length (take most lined) ≡ most
-    full-if false e h = length-take-le most lined (omega (arith, leb-false (length lined) most e))
-    full-if true e h =
-        let whole = take-all most lined (leb-true (length lined) most e) in
-        let lacks = due-lacks isDueAt p d way (subst (NotIn p) whole h) in
-        absurd (walk-all places (λ (q : ℕ). q ≢ p) p b (first % places) begun lacks refl)
-
-    pub served-full : NotIn p (servedOf ds first t most) → length (servedOf ds first t most) ≡ most
-    served-full = full-if (leb (length lined) most) refl
-
--- ---- the round
+-- ---- what is served
 
 one-by :
     (x : Due) (d : Domain) (t : VirtualLocalTime) (ids : DataIds) → isAt x ≡ true →
@@ -187,39 +163,73 @@ frame-one : (d : Domain) (t : VirtualLocalTime) → isDue d t ≡ true → lengt
 frame-one d t = one-by (dueIn d t) d t (d .settings .ids)
 
 module _ (ds : List Domain) (first : ℕ) (t : VirtualLocalTime) (most : ℕ) where
-  abbrev served : List ℕ
-  served = servedOf ds first t most
+  abbrev isDueAt : ℕ → Bool
+  isDueAt p = isDue (recordAt ds p) t
 
-  round-told : roundOf ds first t most ≡ gone (toldOf places none (due t) (serve t) (say t) served ds first)
-  round-told =
-      goes-told t most places (first % places) 0 ds first (omega arith) (begun ds first t most)
-      ∙ ap (λ (j : ℕ). gone (toldBy t j (way ds first t most) ds first)) (sub-zero most)
+  abbrev oneAt : ℕ → ℕ
+  oneAt p = cond (isDueAt p) 1 0
 
-  said-one : length (flatMap (λ (p : ℕ). frameBy (recordAt ds p) t) served) ≡ length served
+  abbrev way : List ℕ
+  way = walk places places (first % places)
+
+  abbrev lined : List ℕ
+  lined = dueAmong isDueAt way
+
+  pub served-apart : AllApart (servedOf ds first t most)
+  served-apart =
+      apart-take most lined
+      (apart-due isDueAt way (walk-apart places places (first % places) (omega arith) (begun first)))
+
+  pub served-below : Each (λ (p : ℕ). p < places) (servedOf ds first t most)
+  served-below =
+      each-take (λ (p : ℕ). p < places) most lined
+      (each-due (λ (p : ℕ). p < places) isDueAt way (walk-below places places (first % places) (begun first)))
+
+  pub served-due : Each (λ (p : ℕ). isDue (recordAt ds p) t ≡ true) (servedOf ds first t most)
+  served-due = each-take (λ (p : ℕ). isDueAt p ≡ true) most lined (due-true isDueAt way)
+
+  pub served-count :
+      length (servedOf ds first t most) ≡ min most (sumBelow (λ (p : ℕ). cond (isDue (recordAt ds p) t) 1 0) places)
+  served-count =
+      length-take most lined
+      ∙ ap (min most) (due-sum isDueAt way ∙ walk-sum places oneAt (first % places) (begun first))
+
+  module _ (p : ℕ) (b : p < places) (d : isDue (recordAt ds p) t ≡ true) where
+    full-if :
+        (all : Bool) → leb (length lined) most ≡ all → NotIn p (take most lined) → length (take most lined) ≡ most
+    full-if false e h = length-take-le most lined (omega (arith, leb-false (length lined) most e))
+    full-if true e h =
+        let whole = take-all most lined (leb-true (length lined) most e) in
+        let lacks = due-lacks isDueAt p d way (subst (NotIn p) whole h) in
+        absurd (walk-all places (λ (q : ℕ). q ≢ p) p b (first % places) (begun first) lacks refl)
+
+    pub served-full : NotIn p (servedOf ds first t most) → length (servedOf ds first t most) ≡ most
+    served-full = full-if (leb (length lined) most) refl
+
+  said-one :
+      length (flatMap (λ (p : ℕ). frameBy (recordAt ds p) t) (servedOf ds first t most))
+      ≡ length (servedOf ds first t most)
   said-one =
-      said-count _ served (each-by (λ (p : ℕ). frame-one (recordAt ds p) t) served (served-due ds first t most))
-
-  pub round-frames : roundOf ds first t most .frames ≡ flatMap (λ (p : ℕ). frameBy (recordAt ds p) t) served
-  round-frames = ap (λ (g : Gone). g .frames) round-told
-
-  pub round-next : roundOf ds first t most .next ≡ nextBehind places served first
-  round-next = ap (λ (g : Gone). g .next) round-told
+      let ps = servedOf ds first t most in
+      said-count _ ps (each-by (λ (p : ℕ). frame-one (recordAt ds p) t) ps served-due)
 
   pub round-count :
       length (roundOf ds first t most .frames)
       ≡ min most (sumBelow (λ (p : ℕ). cond (isDue (recordAt ds p) t) 1 0) places)
-  round-count = ap length round-frames ∙ said-one ∙ served-count ds first t most
+  round-count = ap length (round-frames ds first t most) ∙ said-one ∙ served-count
+
+  -- ---- the round
 
   pub first-due : length ds ≡ places → FirstDue ds first t most (roundOf ds first t most)
   first-due size =
-      let apart = served-apart ds first t most in
-      let there : Each (λ (p : ℕ). p < length ds) served = rw size (served-below ds first t most) in
-      subst (FirstDue ds first t most) (sym round-told)
+      let ps = servedOf ds first t most in
+      let there : Each (λ (p : ℕ). p < length ds) ps = rw size served-below in
+      subst (FirstDue ds first t most) (sym (round-told ds first t most))
       (record {
-        once = apart;
-        sends = after-served none (serve t) served ds apart there;
-        stays = λ p h. after-other none (serve t) p served ds h;
-        size = after-length none (serve t) served ds;
+        once = served-apart;
+        sends = after-served none (serve t) ps ds served-apart there;
+        stays = λ p h. after-other none (serve t) p ps ds h;
+        size = after-length none (serve t) ps ds;
         next-one = refl;
         frames = refl;
         count = said-one;

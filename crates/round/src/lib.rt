@@ -37,7 +37,7 @@ pub fn go_round(
     let mut at = (first % PLACES) as usize;
     let mut next = first;
     let mut sent = 0;
-    let mut turns = 0;
+    let mut turns: usize = 0;
     while turns < NodeSettings::DOMAINS {
         let record = records[at];
         let settings = record.settings;
