@@ -1,2 +1,4 @@
 -- The definitions of `bench_record`.
 pub mod Record
+pub mod Line
+pub mod Step

@@ -2,35 +2,17 @@
 -- this file.
 -- Assumes nothing.
 use Prim.Native.Nat.{ℕ}
-use mathlib.Core.Path.{_≡_, sym, ap, _∙_}
-use mathlib.Core.Bool.{Bool}
 use mathlib.Core.List.{List}
 use Rattle.promise.specs.Only.{OnlyOne}
-use Rattle.text.specs.Text.{Puts}
-use Rattle.text.proofs.Only.{puts-only}
 use Rattle.node.specs.declared.Node.{Node}
-use Rattle.bench_record.specs.declared.Asked.{Asked}
-use Rattle.bench_record.specs.declared.Asked.the-variants.{Call, Bad}
+use Rattle.bench_record.specs.declared.step.Step.{Step}
 use Rattle.bench_record.specs.Record.{askedBy}
-use Rattle.bench_step.specs.declared.BenchStep.{BenchStep}
-use Rattle.bench_step.specs.Step.{SteppedAs, BenchStepped}
-
--- the node and whether the run goes on are equations, and the place and the bytes are those of one text
-same :
-    (xs : List ℕ) (at : ℕ) (before : List ℕ) (n : Node) (on : Bool) (x y : BenchStep × List ℕ) →
-    x .0 .node ≡ n → y .0 .node ≡ n → x .0 .«goes_on» ≡ on → y .0 .«goes_on» ≡ on →
-    Puts xs at before (x .0 .at) (x .1) → Puts xs at before (y .0 .at) (y .1) → x ≡ y
-same xs at before n on x y a b c d p q =
-    let text = puts-only xs at before (x .0 .at, x .1) (y .0 .at, y .1) p q in
-    λ i. (record { node = (a ∙ sym b) i; at = text i .0; «goes_on» = (c ∙ sym d) i }, text i .1)
+use Rattle.bench_record.proofs.step.Only.{record-stepped-only}
+use Rattle.bench_step.specs.BenchLine.{benchLine}
+use Rattle.bench_step.specs.Step.{payloadOf, lent, BenchStepped}
 
 pub bench-step-only :
     (n : Node) (item : ℕ) (bytes : List ℕ) (at : ℕ) (before : List ℕ) →
-    OnlyOne (λ (r : BenchStep × List ℕ). BenchStepped n item bytes at before (r .0) (r .1))
-bench-step-only n item bytes at before = go (askedBy bytes)
-  where
-    go : (a : Asked) → OnlyOne (λ (r : BenchStep × List ℕ). SteppedAs a n item bytes at before (r .0) (r .1))
-    go (Call request) x y p q =
-        same _ at before _ _ x y (p .node) (q .node) (p .«goes_on») (q .«goes_on») (p .line) (q .line)
-    go Bad x y p q =
-        same _ at before _ _ x y (p .node) (q .node) (p .«goes_on») (q .«goes_on») (p .line) (q .line)
+    OnlyOne (λ (r : Step × List ℕ). BenchStepped n item bytes at before (r .0) (r .1))
+bench-step-only n item bytes =
+    record-stepped-only (askedBy bytes) (benchLine item) (payloadOf bytes) (λ q. lent) n item

@@ -4,35 +4,23 @@ pub mod line;
 use crate::line::put_bench_line;
 use bench_record::Asked;
 use bench_record::asked_by;
+use bench_record::step::Step;
+use bench_record::step::bad_record;
 use node::Node;
 use node_call::Request;
 use node_call::call;
 use text::fields::byte_at;
-use text::lines::put_bad;
 ghost use mathlib.Core.Path.{_≡_};
-ghost use Rattle.bench_step.specs.Step.{payloadOf, BenchCalled, BenchStepped};
-
-pub struct BenchStep {
-    pub node: Node,
-    // Where the line ends.
-    pub at: usize,
-    // Whether the run goes on.
-    pub goes_on: bool,
-}
+ghost use Rattle.bench_record.specs.Step.{Answered};
+ghost use Rattle.bench_step.specs.BenchLine.{benchLine};
+ghost use Rattle.bench_step.specs.Step.{payloadOf, lent, BenchStepped};
 
 // The record's line, and the node after its call. A bad record ends the run.
-pub fn bench_step(node: Node, item: u64, bytes: &[u8], out: &mut [u8], at: usize) -> BenchStep
+pub fn bench_step(node: Node, item: u64, bytes: &[u8], out: &mut [u8], at: usize) -> Step
     ensures { λ r. ⌜ BenchStepped node item (now (bytes .entry)) at (now (out .entry)) r (now (out .exit)) ⌝ }
 {
     match asked_by(bytes) {
-        Asked::Bad => {
-            let end = put_bad(out, at, item);
-            BenchStep {
-                node,
-                at: end,
-                goes_on: false,
-            }
-        }
+        Asked::Bad => bad_record(node, item, out, at),
         Asked::Call(request) => answer(node, item, request, payload(bytes), out, at),
     }
 }
@@ -45,15 +33,16 @@ fn answer(
     payload: [u8; 8],
     out: &mut [u8],
     at: usize,
-) -> BenchStep
-    ensures { λ r. ⌜ BenchCalled node item request payload at (now (out .entry)) r (now (out .exit)) ⌝ }
+) -> Step
+    ensures { λ r. ⌜ Answered (benchLine item) node request payload lent at
+        (now (out .entry)) r (now (out .exit)) ⌝ }
 {
     let mut sent = [0u8; 8];
     let called = call(node, request, &payload, &mut sent);
     let told = called.answer;
     let after = called.node;
     let end = put_bench_line(out, at, item, told, &sent);
-    BenchStep {
+    Step {
         node: after,
         at: end,
         goes_on: true,

@@ -1,22 +1,21 @@
 // The bench's line of an answer (paper 01, "Bench program"). A refusal is its number and nothing more.
+use bench_record::line::put_shown;
 use call_read::ReadAnswer;
 use master_confirm::ConfirmAnswer;
 use node::CycleAnswer;
 use node_call::CallAnswer;
 use node_call::call_number;
 use text::lines::put_answer;
-use text::lines::put_time;
 use text::put_byte;
 use text::put_decimal;
 use text::put_hex;
-use text::put_hex_byte;
 ghost use mathlib.Core.Path.{_≡_};
 ghost use Rattle.text.specs.Text.{Puts};
 ghost use Rattle.bench_step.specs.BenchLine.{
-  readText,
-  cycleText,
-  confirmText,
-  valuesText,
+  benchRead,
+  benchCycle,
+  benchConfirm,
+  benchValues,
   benchLine,
 };
 
@@ -37,7 +36,7 @@ pub fn put_bench_line(
 
 // What a success adds.
 fn put_values(out: &mut [u8], at: usize, answer: CallAnswer, sent: &[u8]) -> usize
-    ensures { λ r. ⌜ Puts (valuesText answer (now (sent .entry))) at (now (out .entry)) r (now (out .exit)) ⌝ }
+    ensures { λ r. ⌜ Puts (benchValues answer (now (sent .entry))) at (now (out .entry)) r (now (out .exit)) ⌝ }
 {
     match answer {
         CallAnswer::Frame(_) => at,
@@ -50,23 +49,17 @@ fn put_values(out: &mut [u8], at: usize, answer: CallAnswer, sent: &[u8]) -> usi
 
 // The time and the status.
 fn put_read(out: &mut [u8], at: usize, read: ReadAnswer) -> usize
-    ensures { λ r. ⌜ Puts (readText read) at (now (out .entry)) r (now (out .exit)) ⌝ }
+    ensures { λ r. ⌜ Puts (benchRead read) at (now (out .entry)) r (now (out .exit)) ⌝ }
 {
     match read {
         ReadAnswer::Refused(_) => at,
-        ReadAnswer::Time(shown) => {
-            let time = shown.time;
-            let seconds = put_byte(out, at, b' ');
-            let blank = put_time(out, seconds, time);
-            let status = put_byte(out, blank, b' ');
-            put_hex_byte(out, status, shown.status)
-        }
+        ReadAnswer::Time(shown) => put_shown(out, at, shown),
     }
 }
 
 // The frame count and the frame.
 fn put_cycle(out: &mut [u8], at: usize, cycle: CycleAnswer, sent: &[u8]) -> usize
-    ensures { λ r. ⌜ Puts (cycleText cycle (now (sent .entry))) at (now (out .entry)) r (now (out .exit)) ⌝ }
+    ensures { λ r. ⌜ Puts (benchCycle cycle (now (sent .entry))) at (now (out .entry)) r (now (out .exit)) ⌝ }
 {
     match cycle {
         CycleAnswer::Refused(_) => at,
@@ -84,7 +77,7 @@ fn put_cycle(out: &mut [u8], at: usize, cycle: CycleAnswer, sent: &[u8]) -> usiz
 
 // The frame.
 fn put_confirm(out: &mut [u8], at: usize, confirm: ConfirmAnswer, sent: &[u8]) -> usize
-    ensures { λ r. ⌜ Puts (confirmText confirm (now (sent .entry))) at (now (out .entry)) r (now (out .exit)) ⌝ }
+    ensures { λ r. ⌜ Puts (benchConfirm confirm (now (sent .entry))) at (now (out .entry)) r (now (out .exit)) ⌝ }
 {
     match confirm {
         ConfirmAnswer::Refused(_) => at,

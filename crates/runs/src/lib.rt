@@ -1,6 +1,7 @@
 // A run of the bench or of the trial over standard input: items in, a line for each out. Of what is read and
 // written no contract can speak: these functions are proved safe and ending, and what an item does is the promise
 // of `bench_step` and `trial_step`.
+use bench_record::step::Step;
 use bench_settings::bench_settings;
 use bench_step::bench_step;
 use node::Node;
@@ -163,27 +164,20 @@ fn length_of(program: Program, bytes: &[u8]) -> usize {
 fn step(program: Program, run: Run, bytes: &[u8], out: &mut [u8], at: usize) -> Run {
     let node = run.node;
     match program {
-        Program::Bench => {
-            let step = bench_step(node, run.item, bytes, out, at);
-            let after = step.node;
-            stepped(run, after, step.at, step.goes_on)
-        }
-        Program::Trial => {
-            let step = trial_step(node, run.item, bytes, out, at);
-            let after = step.node;
-            stepped(run, after, step.at, step.goes_on)
-        }
+        Program::Bench => stepped(run, bench_step(node, run.item, bytes, out, at)),
+        Program::Trial => stepped(run, trial_step(node, run.item, bytes, out, at)),
     }
 }
 
-fn stepped(run: Run, node: Node, at: usize, goes_on: bool) -> Run {
+fn stepped(run: Run, step: Step) -> Run {
+    let node = step.node;
     Run {
         node,
         item: next_item(run.item),
         held: run.held,
         used: run.used,
-        at,
-        more: goes_on,
-        goes_on,
+        at: step.at,
+        more: step.goes_on,
+        goes_on: step.goes_on,
     }
 }

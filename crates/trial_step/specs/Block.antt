@@ -2,110 +2,16 @@
 use Prim.Native.Nat.{ℕ, zero, suc, _+_, _*_}
 use mathlib.Core.Bool.{cond}
 use mathlib.Core.List.{List, [], _∷_}
-use lib.Dec.{eqb, ltb}
+use lib.Dec.{ltb}
 use lib.ListN.{getD, replicate}
-use Rattle.text.specs.Fields.{longAt, bytesAt}
-use Rattle.frame.specs.declared.data_ids.DataIds.{DataIds}
-use Rattle.frame_check.specs.declared.CheckMode.the-variants.{Validated, NotValidated, Ignored, Optional}
 use Rattle.settings.specs.declared.domain_settings.DomainSettings.{DomainSettings}
-use Rattle.settings.specs.declared.domain_settings.Role.the-variants.{Slave, Master}
-use Rattle.settings.specs.declared.domain_settings.Security.the-variants.{Plain, Secured}
 use Rattle.settings.specs.declared.node_settings.NodeSettings.{NodeSettings}
 use Rattle.settings.specs.Domain.{absentHeld}
-use Rattle.trial_step.specs.declared.block.Mode.{Mode}
-use Rattle.trial_step.specs.declared.block.Mode.the-variants as mode
-use Rattle.trial_step.specs.declared.block.Sends.{Sends}
-use Rattle.trial_step.specs.declared.block.Sends.the-variants as sends
-
--- ---- Check mode: 0 validated, 1 not validated, 2 ignored, 3 optional.
-abbrev pub modeOf : (code : ℕ) → Mode
-modeOf code =
-    cond (eqb code 0) (mode.Is Validated)
-    (cond (eqb code 1) (mode.Is NotValidated)
-    (cond (eqb code 2) (mode.Is Ignored)
-    (cond (eqb code 3) (mode.Is Optional) mode.Unknown)))
-
--- ---- Secured: 0 or 1.
-abbrev pub sendsAs : (code : ℕ) → Sends
-sendsAs code = cond (eqb code 0) (sends.As Plain) (cond (eqb code 1) (sends.As Secured) sends.Unknown)
-
--- ---- 16 SYNC DataIDs, 16 FUP DataIDs.
-abbrev pub idsAt : List ℕ → (at : ℕ) → DataIds
-idsAt item at = record { sync = bytesAt 16 item at; fup = bytesAt 16 item (at + 16) }
-
--- ---- C is held in 32 bits: what is above them is out of range, and stays so.
-abbrev pub confirmationTime : ℕ → ℕ
-confirmationTime time = cond (ltb time 4294967295) time 4294967295
-
--- ---- Settings that no node takes: a slave with J 0.
-abbrev pub noSettings : DomainSettings
-noSettings =
-    record {
-      «follow_up_time» = 0;
-      «loss_time» = 0;
-      «future_threshold» = 0;
-      «past_threshold» = 0;
-      period = 0;
-      «confirmation_time» = 0;
-      ids = record { sync = replicate 16 0; fup = replicate 16 0 };
-      role = Slave;
-      mode = Validated;
-      «jump_width» = 0;
-      security = Plain;
-      user = record { 0 = 0; 1 = 0; 2 = 0 };
-    }
-
--- ---- A domain block, from `at` on: role, check mode, J, secured, user bytes 0 to 2, a spare byte; then F,
--- L, future, past, P, C; then the DataIDs. A role's settings alone are read.
-abbrev pub slaveAs : Mode → List ℕ → (at : ℕ) → DomainSettings
-slaveAs (mode.Is m) item at =
-    record {
-      «follow_up_time» = longAt item (at + 8);
-      «loss_time» = longAt item (at + 16);
-      «future_threshold» = longAt item (at + 24);
-      «past_threshold» = longAt item (at + 32);
-      period = 0;
-      «confirmation_time» = 0;
-      ids = idsAt item (at + 56);
-      role = Slave;
-      mode = m;
-      «jump_width» = getD item (at + 2) 0;
-      security = Plain;
-      user = record { 0 = 0; 1 = 0; 2 = 0 };
-    }
-slaveAs mode.Unknown item at = noSettings
-
-abbrev pub masterAs : Sends → List ℕ → (at : ℕ) → DomainSettings
-masterAs (sends.As security) item at =
-    record {
-      «follow_up_time» = 0;
-      «loss_time» = 0;
-      «future_threshold» = 0;
-      «past_threshold» = 0;
-      period = longAt item (at + 40);
-      «confirmation_time» = confirmationTime (longAt item (at + 48));
-      ids = idsAt item (at + 56);
-      role = Master;
-      mode = Validated;
-      «jump_width» = 0;
-      security = security;
-      user = record { 0 = getD item (at + 4) 0; 1 = getD item (at + 5) 0; 2 = getD item (at + 6) 0 };
-    }
-masterAs sends.Unknown item at = noSettings
-
--- ---- Role: 0 absent, 1 slave, 2 master.
-abbrev pub domainAs : (role : ℕ) → List ℕ → (at : ℕ) → DomainSettings
-domainAs role item at =
-    cond (eqb role 0) absentHeld
-    (cond (eqb role 1) (slaveAs (modeOf (getD item (at + 1) 0)) item at)
-    (cond (eqb role 2) (masterAs (sendsAs (getD item (at + 3) 0)) item at) noSettings))
-
-abbrev pub domainOf : List ℕ → (at : ℕ) → DomainSettings
-domainOf item at = domainAs (getD item at 0) item at
+use Rattle.trial_step.specs.DomainBlock.{domainAt}
 
 -- ---- Domains without a block are absent.
 abbrev pub oneOf : (blocks : ℕ) → List ℕ → (d : ℕ) → DomainSettings
-oneOf blocks item d = cond (ltb d blocks) (domainOf item (4 + 128 * d)) absentHeld
+oneOf blocks item d = cond (ltb d blocks) (domainAt item (4 + 128 * d)) absentHeld
 
 abbrev pub domainsFrom : (k blocks : ℕ) → List ℕ → (d : ℕ) → List DomainSettings
 domainsFrom zero blocks item d = []

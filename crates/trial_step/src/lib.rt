@@ -1,5 +1,6 @@
 // An item of the trial: a settings block or a call record, and its line.
 pub mod block;
+mod domain_block;
 pub mod item;
 pub mod line;
 
@@ -8,6 +9,8 @@ use crate::item::is_settings;
 use crate::line::put_trial_line;
 use bench_record::Asked;
 use bench_record::asked_by;
+use bench_record::step::Step;
+use bench_record::step::bad_record;
 use node::Node;
 use node_call::Request;
 use node_call::call;
@@ -15,60 +18,40 @@ use settings::Verdict;
 use text::fields::byte_at;
 use text::fields::pair_at;
 use text::lines::put_answer;
-use text::lines::put_bad;
 use text::put_byte;
 ghost use mathlib.Core.Path.{_≡_};
+ghost use Rattle.bench_record.specs.Step.{Answered};
+ghost use Rattle.trial_step.specs.TrialLine.{trialLine};
 ghost use Rattle.trial_step.specs.Step.{
+  paddedFrame,
+  givenFrame,
   atMost512,
   lentLength,
-  frameOf,
+  lentBuffer,
   verdictNumber,
   Renewed,
-  TrialCalled,
-  TrialAsked,
   TrialStepped,
 };
 
-pub struct TrialStep {
-    pub node: Node,
-    // Where the line ends.
-    pub at: usize,
-    // Whether the run goes on.
-    pub goes_on: bool,
-}
-
 // The item's line, and the node after it. A bad record ends the run.
-pub fn trial_step(node: Node, item: u64, bytes: &[u8], out: &mut [u8], at: usize) -> TrialStep
+pub fn trial_step(node: Node, item: u64, bytes: &[u8], out: &mut [u8], at: usize) -> Step
     ensures { λ r. ⌜ TrialStepped node item (now (bytes .entry)) at (now (out .entry)) r (now (out .exit)) ⌝ }
 {
     if is_settings(bytes) {
         return renew(item, bytes, out, at);
     }
     match asked_by(bytes) {
-        Asked::Bad => {
-            let end = put_bad(out, at, item);
-            TrialStep {
-                node,
-                at: end,
-                goes_on: false,
-            }
-        }
+        Asked::Bad => bad_record(node, item, out, at),
         Asked::Call(request) => ask(node, item, request, bytes, out, at),
     }
 }
 
 // The call that a record asks for, with the record's frame and a lent buffer of A5s.
-fn ask(
-    node: Node,
-    item: u64,
-    request: Request,
-    bytes: &[u8],
-    out: &mut [u8],
-    at: usize,
-) -> TrialStep
-    ensures { λ r. ⌜ TrialAsked node item request (now (bytes .entry)) at (now (out .entry)) r (now (out .exit)) ⌝ }
+fn ask(node: Node, item: u64, request: Request, bytes: &[u8], out: &mut [u8], at: usize) -> Step
+    ensures { λ r. ⌜ Answered (trialLine item) node request (givenFrame (now (bytes .entry)))
+        (lentBuffer (now (bytes .entry)) request) at (now (out .entry)) r (now (out .exit)) ⌝ }
 {
-    let frame = frame_of(bytes);
+    let frame = padded_frame(bytes);
     let frame_length = byte_at(bytes, 3) as usize;
     let mut buffer = [0xA5u8; 512];
     let length = lent_length(request, bytes);
@@ -84,7 +67,7 @@ fn ask(
 }
 
 // The node of a settings block, also where it is refused.
-fn renew(item: u64, bytes: &[u8], out: &mut [u8], at: usize) -> TrialStep
+fn renew(item: u64, bytes: &[u8], out: &mut [u8], at: usize) -> Step
     ensures { λ r. ⌜ Renewed item (now (bytes .entry)) at (now (out .entry)) r (now (out .exit)) ⌝ }
 {
     let new = Node::new(settings_of(bytes));
@@ -92,7 +75,7 @@ fn renew(item: u64, bytes: &[u8], out: &mut [u8], at: usize) -> TrialStep
     let node = new.node;
     let newline = put_answer(out, at, item, verdict_number(verdict));
     let end = put_byte(out, newline, b'\n');
-    TrialStep {
+    Step {
         node,
         at: end,
         goes_on: true,
@@ -117,15 +100,15 @@ fn answer(
     buffer: &mut [u8],
     out: &mut [u8],
     at: usize,
-) -> TrialStep
-    ensures { λ r. ⌜ TrialCalled node item request (now (frame .entry)) (now (buffer .entry)) at
+) -> Step
+    ensures { λ r. ⌜ Answered (trialLine item) node request (now (frame .entry)) (now (buffer .entry)) at
         (now (out .entry)) r (now (out .exit)) ⌝ }
 {
     let called = call(node, request, frame, buffer);
     let told = called.answer;
     let after = called.node;
     let end = put_trial_line(out, at, item, told, buffer);
-    TrialStep {
+    Step {
         node: after,
         at: end,
         goes_on: true,
@@ -153,8 +136,8 @@ fn at_most_512(length: u16) -> usize
 }
 
 // The payload, and zeros.
-fn frame_of(bytes: &[u8]) -> [u8; 255]
-    ensures { λ r. ⌜ r ≡ frameOf (now (bytes .entry)) ⌝ }
+fn padded_frame(bytes: &[u8]) -> [u8; 255]
+    ensures { λ r. ⌜ r ≡ paddedFrame (now (bytes .entry)) ⌝ }
 {
     let mut frame = [0u8; 255];
     let mut i = 0;

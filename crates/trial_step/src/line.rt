@@ -1,23 +1,23 @@
 // The trial's line of an answer. A lent buffer is shown whole, also where the call is refused.
+use bench_record::line::put_shown;
 use call_read::ReadAnswer;
 use node::CycleAnswer;
 use node_call::CallAnswer;
 use node_call::call_number;
 use settings::UserBytes;
 use text::lines::put_answer;
-use text::lines::put_time;
 use text::put_byte;
 use text::put_decimal;
 use text::put_hex;
 use text::put_hex_byte;
 ghost use mathlib.Core.Path.{_≡_};
 ghost use Rattle.text.specs.Text.{Puts};
+ghost use Rattle.node.specs.CycleAnswer.{cycleCount};
 ghost use Rattle.trial_step.specs.TrialLine.{
   userText,
-  readText,
-  countOf,
+  trialRead,
   bufferText,
-  valuesText,
+  trialValues,
   trialLine,
 };
 
@@ -38,7 +38,7 @@ pub fn put_trial_line(
 
 // What comes after the number.
 fn put_values(out: &mut [u8], at: usize, answer: CallAnswer, buffer: &[u8]) -> usize
-    ensures { λ r. ⌜ Puts (valuesText answer (now (buffer .entry))) at (now (out .entry)) r (now (out .exit)) ⌝ }
+    ensures { λ r. ⌜ Puts (trialValues answer (now (buffer .entry))) at (now (out .entry)) r (now (out .exit)) ⌝ }
 {
     match answer {
         CallAnswer::Frame(_) => at,
@@ -55,20 +55,16 @@ fn put_values(out: &mut [u8], at: usize, answer: CallAnswer, buffer: &[u8]) -> u
 
 // The time, the status, the user bytes and the update counter.
 fn put_read(out: &mut [u8], at: usize, read: ReadAnswer) -> usize
-    ensures { λ r. ⌜ Puts (readText read) at (now (out .entry)) r (now (out .exit)) ⌝ }
+    ensures { λ r. ⌜ Puts (trialRead read) at (now (out .entry)) r (now (out .exit)) ⌝ }
 {
     match read {
         ReadAnswer::Refused(_) => at,
         ReadAnswer::Time(shown) => {
-            let time = shown.time;
             let user = shown.user;
-            let seconds = put_byte(out, at, b' ');
-            let blank = put_time(out, seconds, time);
-            let status = put_byte(out, blank, b' ');
-            let second = put_hex_byte(out, status, shown.status);
-            let bytes = put_byte(out, second, b' ');
-            let third = put_user(out, bytes, user);
-            let updates = put_byte(out, third, b' ');
+            let blank = put_shown(out, at, shown);
+            let bytes = put_byte(out, blank, b' ');
+            let second = put_user(out, bytes, user);
+            let updates = put_byte(out, second, b' ');
             put_decimal(out, updates, shown.updates as u64)
         }
     }
@@ -84,7 +80,7 @@ fn put_user(out: &mut [u8], at: usize, user: UserBytes) -> usize
 
 // A refused main cycle sent none.
 fn count_of(cycle: CycleAnswer) -> u64
-    ensures { λ r. ⌜ r ≡ countOf cycle ⌝ }
+    ensures { λ r. ⌜ r ≡ cycleCount cycle ⌝ }
 {
     match cycle {
         CycleAnswer::Sent(count) => count as u64,

@@ -1,7 +1,7 @@
 -- `bench_record::asked_by` meets its contract: the tests are the definition's. Assumes nothing.
 use mathlib.Core.Path.{sym, _∙_}
 use borrow.Author.Needs.{needs}
-use borrow.Author.Tests.{eq-eqb, ne-eqb}
+use borrow.Author.Tests.{ne-eqb}
 use Rattle.bench_record.proofs.asked_by.Statement.{statement}
 use Rattle.bench_record.proofs.asked_by.Tie as tie
 

@@ -15,8 +15,10 @@ use Rattle.text.specs.Fields.{pairAt}
 use Rattle.node.specs.declared.Node.{Node}
 use Rattle.node_call.specs.declared.Request.{Request}
 use Rattle.node_call.specs.declared.Request.the-variants.{Frame, Read, Set, Cycle, Confirm}
-use Rattle.trial_step.specs.declared.TrialStep.{TrialStep}
-use Rattle.trial_step.specs.Step.{frameOf, atMost512, lentLength, TrialCalled, TrialAsked}
+use Rattle.bench_record.specs.declared.step.Step.{Step}
+use Rattle.bench_record.specs.Step.{Answered}
+use Rattle.trial_step.specs.TrialLine.{trialLine}
+use Rattle.trial_step.specs.Step.{paddedFrame, givenFrame, atMost512, lentLength, lentBuffer}
 use Rattle.trial_step.proofs.ask.Statement.{statement}
 use Rattle.trial_step.proofs.ask.Tie as tie
 
@@ -42,21 +44,21 @@ take-replicate (suc n) zero a h = absurd (omega arith)
 take-replicate (suc n) (suc m) a h = ap (λ (l : List ℕ). a ∷ l) (take-replicate n m a (omega arith))
 
 asked :
-    {n : Node} {item : ℕ} {q : Request} (bytes : List ℕ) {frame before after : List ℕ} {count lent at : ℕ}
-    {r : TrialStep} →
-    frame ≡ frameOf bytes → count ≡ getD bytes 3 0 → lent ≡ lentLength q bytes →
-    TrialCalled n item q (take count frame) (take lent (replicate 512 0xA5)) at before r after →
-    TrialAsked n item q bytes at before r after
-asked {n} {item} {q} bytes {frame} {before} {after} {count} {lent} {at} {r} e f g p =
+    (n : Node) (item : ℕ) (q : Request) (bytes : List ℕ) {frame before after : List ℕ} {count lent at : ℕ}
+    {r : Step} →
+    frame ≡ paddedFrame bytes → count ≡ getD bytes 3 0 → lent ≡ lentLength q bytes →
+    Answered (trialLine item) n q (take count frame) (take lent (replicate 512 0xA5)) at before r after →
+    Answered (trialLine item) n q (givenFrame bytes) (lentBuffer bytes q) at before r after
+asked n item q bytes {frame} {before} {after} {count} {lent} {at} {r} e f g p =
     let h : lent ≤ 512 = omega (arith, lent-most q bytes) in
-    subst (λ xs. TrialCalled n item q xs (replicate (lentLength q bytes) 0xA5) at before r after)
+    subst (λ xs. Answered (trialLine item) n q xs (lentBuffer bytes q) at before r after)
     (λ i. take (f i) (e i))
-    (subst (λ xs. TrialCalled n item q (take count frame) xs at before r after)
+    (subst (λ xs. Answered (trialLine item) n q (take count frame) xs at before r after)
     (take-replicate lent 512 0xA5 h ∙ ap (λ (k : ℕ). replicate k 0xA5) g)
     p)
 
-frame-of-requires : tie.Need-frame-of-requires
-frame-of-requires c κs = search needs
+padded-frame-requires : tie.Need-padded-frame-requires
+padded-frame-requires c κs = search needs
 
 byte-at-requires : tie.Need-byte-at-requires
 byte-at-requires c κs = search needs
@@ -74,8 +76,8 @@ slice-aggregate-answer : tie.Need-slice-aggregate-answer
 slice-aggregate-answer c =
     let read = c .before .before in
     let made = read .before in
-    let whole : length (made .frame-of .result) ≡ 255 = ap length (made .frame-of .ensures) in
-    sym (length-take-le (read .byte-at .result) (made .frame-of .result) (omega arith))
+    let whole : length (made .padded-frame .result) ≡ 255 = ap length (made .padded-frame .ensures) in
+    sym (length-take-le (read .byte-at .result) (made .padded-frame .result) (omega arith))
 
 array-borrow-prefix-buffer : tie.Need-array-borrow-prefix-buffer
 array-borrow-prefix-buffer c =
@@ -98,8 +100,9 @@ returns c =
     let answered = c .before .before .before in
     let lent = answered .before .before .before .before in
     let read = lent .before in
-    asked (now (read .before .before .before .before .args .bytes))
-    (read .before .frame-of .ensures)
+    let a = read .before .before .before .before .args in
+    asked (a .node) (a .item) (a .request) (now (a .bytes))
+    (read .before .padded-frame .ensures)
     (read .byte-at .ensures)
     (lent .lent-length .ensures)
     (answered .answer .ensures)
@@ -108,7 +111,7 @@ pub ask-spec : {M : Type 1} → statement M
 ask-spec =
     tie.close
     (tie.spec
-    frame-of-requires
+    padded-frame-requires
     byte-at-requires
     cast-frame-length
     lent-length-requires

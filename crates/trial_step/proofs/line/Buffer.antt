@@ -9,8 +9,9 @@ use Rattle.text.specs.Text.{hexOf, decimal}
 use Rattle.text.specs.Lines.{blank}
 use Rattle.node.specs.declared.cycles.CycleAnswer.{CycleAnswer}
 use Rattle.node.specs.declared.cycles.CycleAnswer.the-variants.{Sent, Refused}
+use Rattle.node.specs.CycleAnswer.{cycleCount}
 use Rattle.node_call.specs.declared.CallAnswer.the-variants.{Cycle}
-use Rattle.trial_step.specs.TrialLine.{countOf, shownBuffer, bufferText, valuesText}
+use Rattle.trial_step.specs.TrialLine.{shownBuffer, bufferText, trialValues}
 
 pub no-byte : (buffer : List ℕ) → length buffer ≡ 0 → 45 ∷ [] ≡ shownBuffer buffer
 no-byte [] none = refl
@@ -23,6 +24,6 @@ some-byte (b ∷ bs) some = refl
 -- by cases: each of the two answers has the buffer in its text
 pub cycle-shows :
     (answer : CycleAnswer) (buffer : List ℕ) →
-    blank ++ decimal (countOf answer) ++ bufferText buffer ≡ valuesText (Cycle answer) buffer
+    blank ++ decimal (cycleCount answer) ++ bufferText buffer ≡ trialValues (Cycle answer) buffer
 cycle-shows (Sent count) buffer = refl
 cycle-shows (Refused refusal) buffer = refl

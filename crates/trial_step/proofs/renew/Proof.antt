@@ -4,6 +4,7 @@ use Prim.Native.Nat.{ℕ}
 use mathlib.Core.Path.{_≡_, refl, ap, _∙_}
 use mathlib.Core.Bool.{true}
 use mathlib.Core.List.{List, _++_}
+use denote.Ref.{now}
 use borrow.Author.Needs.{needs}
 use Rattle.text.specs.Text.{Puts}
 use Rattle.text.proofs.Laws.{then, named}
@@ -50,7 +51,8 @@ returns c =
     let answered = ended .before .before .before .before in
     let told = answered .before in
     let made = told .before .before .before in
-    renewed _ _
+    let a = made .before .before .before .before .args in
+    renewed (a .item) (now (a .bytes))
     (made .new .ensures ∙ ap newOf (made .before .settings-of .ensures))
     (told .verdict-number .ensures)
     (answered .put-answer .ensures)

@@ -1,46 +1,43 @@
 -- `trial_step::trial_step` meets its contract: the test is the definition's, and each arm knows what the record asks
 -- for. Assumes nothing.
 use Prim.Native.Nat.{ℕ}
-use mathlib.Core.Path.{_≡_, refl, sym, subst, _∙_}
+use mathlib.Core.Path.{_≡_, sym, subst, _∙_}
 use mathlib.Core.Bool.{true, false}
 use mathlib.Core.List.{List}
 use denote.Ref.{now}
 use borrow.Author.Needs.{needs}
-use Rattle.text.specs.Text.{Puts}
-use Rattle.text.specs.Lines.{badText}
 use Rattle.node.specs.declared.Node.{Node}
 use Rattle.node_call.specs.declared.Request.{Request}
 use Rattle.bench_record.specs.declared.Asked.the-variants.{Call, Bad}
+use Rattle.bench_record.specs.declared.step.Step.{Step}
 use Rattle.bench_record.specs.Record.{askedBy}
+use Rattle.bench_record.specs.Step.{Ended, Answered}
+use Rattle.bench_record.proofs.step.Laws.{bad-stepped, call-stepped}
+use Rattle.trial_step.specs.TrialLine.{trialLine}
 use Rattle.trial_step.specs.Item.{isSettings}
-use Rattle.trial_step.specs.declared.TrialStep.{TrialStep}
-use Rattle.trial_step.specs.Step.{Renewed, TrialAsked, CalledAs, SteppedAs, TrialStepped}
+use Rattle.trial_step.specs.Step.{givenFrame, lentBuffer, Renewed, ItemStepped, TrialStepped}
 use Rattle.trial_step.proofs.trial_step.Statement.{statement}
 use Rattle.trial_step.proofs.trial_step.Tie as tie
 
-module _ (n : Node) (item : ℕ) (bytes : List ℕ) (at : ℕ) (before : List ℕ) where
+module _ (n : Node) (item : ℕ) (bytes : List ℕ) (at : ℕ) (before : List ℕ) {r : Step} {after : List ℕ} where
   renewed :
-      {r : TrialStep} {after : List ℕ} → isSettings bytes ≡ true → Renewed item bytes at before r after →
-      TrialStepped n item bytes at before r after
-  renewed {r} {after} e p = subst (λ b. SteppedAs b n item bytes at before r after) (sym e) p
+      isSettings bytes ≡ true → Renewed item bytes at before r after → TrialStepped n item bytes at before r after
+  renewed e p = subst (λ b. ItemStepped b n item bytes at before r after) (sym e) p
 
   bad :
-      {end : ℕ} {after : List ℕ} → isSettings bytes ≡ false → askedBy bytes ≡ Bad →
-      Puts (badText item) at before end after →
-      TrialStepped n item bytes at before (record { node = n; at = end; «goes_on» = false }) after
-  bad {end} {after} e f p =
-      let r : TrialStep = record { node = n; at = end; «goes_on» = false } in
-      subst (λ b. SteppedAs b n item bytes at before r after) (sym e)
-      (subst (λ a. CalledAs a n item bytes at before r after) (sym f)
-      (record { node = refl; «goes_on» = refl; line = p }))
+      isSettings bytes ≡ false → askedBy bytes ≡ Bad → Ended n item at before r after →
+      TrialStepped n item bytes at before r after
+  bad e f p =
+      subst (λ b. ItemStepped b n item bytes at before r after) (sym e)
+      (bad-stepped (trialLine item) (givenFrame bytes) (lentBuffer bytes) n item f p)
 
   asked :
-      {q : Request} {r : TrialStep} {after : List ℕ} →
-      isSettings bytes ≡ false → askedBy bytes ≡ Call q → TrialAsked n item q bytes at before r after →
+      {q : Request} → isSettings bytes ≡ false → askedBy bytes ≡ Call q →
+      Answered (trialLine item) n q (givenFrame bytes) (lentBuffer bytes q) at before r after →
       TrialStepped n item bytes at before r after
-  asked {r} {after} e f p =
-      subst (λ b. SteppedAs b n item bytes at before r after) (sym e)
-      (subst (λ a. CalledAs a n item bytes at before r after) (sym f) p)
+  asked e f p =
+      subst (λ b. ItemStepped b n item bytes at before r after) (sym e)
+      (call-stepped (trialLine item) (givenFrame bytes) (lentBuffer bytes) n item f p)
 
 is-settings-requires : tie.Need-is-settings-requires
 is-settings-requires c κs = search needs
@@ -67,8 +64,8 @@ asked-by-requires c κs = search needs
 enum-told : tie.Need-enum-told
 enum-told c = search needs
 
-put-bad-requires : tie.Need-put-bad-requires
-put-bad-requires c κs = search needs
+bad-record-requires : tie.Need-bad-record-requires
+bad-record-requires c κs = search needs
 
 enum-known-request : tie.Need-enum-known-request
 enum-known-request c = search needs
@@ -90,7 +87,7 @@ returns-2 c =
     bad (a .node) (a .item) (now (a .bytes)) (a .at) (now (a .out))
     (sym (test .is-settings .ensures) ∙ else .if1 .left)
     (sym (read .asked-by .ensures) ∙ arm .enum-told .given .1)
-    (wrote .put-bad .ensures)
+    (wrote .bad-record .ensures)
 
 same-length-3 : tie.Need-same-length-3
 same-length-3 c = search needs
@@ -118,7 +115,7 @@ trial-step-spec =
     returns
     asked-by-requires
     enum-told
-    put-bad-requires
+    bad-record-requires
     enum-known-request
     ask-requires
     same-length-2

@@ -4,7 +4,7 @@ use mathlib.Core.Path.{sym, ap}
 use denote.Ref.{now}
 use borrow.Author.Needs.{needs}
 use Rattle.text.proofs.Laws.{then, named, nothing}
-use Rattle.bench_step.specs.BenchLine.{confirmText}
+use Rattle.bench_step.specs.BenchLine.{benchConfirm}
 use Rattle.bench_step.proofs.line.put_confirm.Statement.{statement}
 use Rattle.bench_step.proofs.line.put_confirm.Tie as tie
 
@@ -23,7 +23,7 @@ put-hex-requires c κs = search needs
 returns : tie.Need-returns
 returns c =
     let start = c .before .before .before .before in
-    named (ap (λ a. confirmText a (now (start .args .sent))) (sym (c .enum-told .given .1))) nothing
+    named (ap (λ a. benchConfirm a (now (start .args .sent))) (sym (c .enum-told .given .1))) nothing
 
 same-length : tie.Need-same-length
 same-length c = search needs
@@ -35,7 +35,7 @@ returns-2 c =
     let arm = first .before .before in
     let start = arm .before .before .before .before in
     named
-    (ap (λ a. confirmText a (now (start .args .sent))) (sym (arm .enum-told2 .given .1)))
+    (ap (λ a. benchConfirm a (now (start .args .sent))) (sym (arm .enum-told2 .given .1)))
     (then (first .put-byte .ensures) (last .put-hex .ensures))
 
 pub put-confirm-spec : {M : Type 1} → statement M

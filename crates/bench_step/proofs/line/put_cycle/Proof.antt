@@ -4,7 +4,7 @@ use mathlib.Core.Path.{sym, ap}
 use denote.Ref.{now}
 use borrow.Author.Needs.{needs}
 use Rattle.text.proofs.Laws.{then, named, nothing}
-use Rattle.bench_step.specs.BenchLine.{cycleText}
+use Rattle.bench_step.specs.BenchLine.{benchCycle}
 use Rattle.bench_step.proofs.line.Frames.{no-frame, one-frame}
 use Rattle.bench_step.proofs.line.put_cycle.Statement.{statement}
 use Rattle.bench_step.proofs.line.put_cycle.Tie as tie
@@ -31,7 +31,7 @@ returns c =
     let arm = first .before .before .before in
     let sent = now (arm .before .before .before .before .args .sent) in
     named
-    (ap (λ a. cycleText a sent) (sym (arm .cycle .given .1)))
+    (ap (λ a. benchCycle a sent) (sym (arm .cycle .given .1)))
     (then
     (then (first .put-byte .ensures) (second .put-decimal .ensures))
     (named (no-frame sent (c .if1 .taken)) nothing))
@@ -45,7 +45,7 @@ put-hex-requires c κs = search needs
 returns-2 : tie.Need-returns-2
 returns-2 c =
     let start = c .before .before .before .before in
-    named (ap (λ a. cycleText a (now (start .args .sent))) (sym (c .enum-told .given .1))) nothing
+    named (ap (λ a. benchCycle a (now (start .args .sent))) (sym (c .enum-told .given .1))) nothing
 
 same-length-2 : tie.Need-same-length-2
 same-length-2 c = search needs
@@ -60,7 +60,7 @@ returns-3 c =
     let arm = first .before .before .before in
     let sent = now (arm .before .before .before .before .args .sent) in
     named
-    (ap (λ a. cycleText a sent) (sym (arm .cycle .given .1)))
+    (ap (λ a. benchCycle a sent) (sym (arm .cycle .given .1)))
     (then
     (then (first .put-byte .ensures) (second .put-decimal .ensures))
     (named (one-frame sent _ (test .if1 .left)) (then (third .put-byte2 .ensures) (last .put-hex .ensures))))

@@ -2,8 +2,8 @@
 -- Assumes nothing.
 use mathlib.Core.Path.{sym, ap}
 use borrow.Author.Needs.{needs}
-use Rattle.text.proofs.Laws.{then, named, nothing}
-use Rattle.bench_step.specs.BenchLine.{readText}
+use Rattle.text.proofs.Laws.{named, nothing}
+use Rattle.bench_step.specs.BenchLine.{benchRead}
 use Rattle.bench_step.proofs.line.put_read.Statement.{statement}
 use Rattle.bench_step.proofs.line.put_read.Tie as tie
 
@@ -13,37 +13,21 @@ enum-told c = search needs
 enum-known-read : tie.Need-enum-known-read
 enum-known-read c = search needs
 
-put-byte-requires : tie.Need-put-byte-requires
-put-byte-requires c κs = search needs
-
-put-time-requires : tie.Need-put-time-requires
-put-time-requires c κs = search needs
-
-put-byte-requires-2 : tie.Need-put-byte-requires-2
-put-byte-requires-2 c κs = search needs
-
-put-hex-byte-requires : tie.Need-put-hex-byte-requires
-put-hex-byte-requires c κs = search needs
+put-shown-requires : tie.Need-put-shown-requires
+put-shown-requires c κs = search needs
 
 returns : tie.Need-returns
 returns c =
-    named (ap readText (sym (c .enum-told .given .1))) nothing
+    named (ap benchRead (sym (c .enum-told .given .1))) nothing
 
 same-length : tie.Need-same-length
 same-length c = search needs
 
 returns-2 : tie.Need-returns-2
 returns-2 c =
-    let last = c .before .before in
-    let third = last .before .before .before .before in
-    let second = third .before .before .before .before in
-    let first = second .before .before .before .before in
-    let arm = first .before .before .before .before in
-    named
-    (ap readText (sym (arm .read .given .1)))
-    (then
-    (then (then (first .put-byte .ensures) (second .put-time .ensures)) (third .put-byte2 .ensures))
-    (last .put-hex-byte .ensures))
+    let called = c .before .before in
+    let arm = called .before .before .before in
+    named (ap benchRead (sym (arm .read .given .1))) (called .put-shown .ensures)
 
 pub put-read-spec : {M : Type 1} → statement M
 put-read-spec =
@@ -51,10 +35,7 @@ put-read-spec =
     (tie.spec
     enum-told
     enum-known-read
-    put-byte-requires
-    put-time-requires
-    put-byte-requires-2
-    put-hex-byte-requires
+    put-shown-requires
     returns
     same-length
     returns-2)

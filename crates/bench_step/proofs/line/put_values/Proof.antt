@@ -4,7 +4,7 @@ use mathlib.Core.Path.{sym, ap}
 use denote.Ref.{now}
 use borrow.Author.Needs.{needs}
 use Rattle.text.proofs.Laws.{named, nothing}
-use Rattle.bench_step.specs.BenchLine.{valuesText}
+use Rattle.bench_step.specs.BenchLine.{benchValues}
 use Rattle.bench_step.proofs.line.put_values.Statement.{statement}
 use Rattle.bench_step.proofs.line.put_values.Tie as tie
 
@@ -35,7 +35,7 @@ put-confirm-requires c κs = search needs
 returns : tie.Need-returns
 returns c =
     let start = c .before .before .before .before in
-    named (ap (λ a. valuesText a (now (start .args .sent))) (sym (c .enum-told .given .1))) nothing
+    named (ap (λ a. benchValues a (now (start .args .sent))) (sym (c .enum-told .given .1))) nothing
 
 same-length : tie.Need-same-length
 same-length c = search needs
@@ -45,12 +45,12 @@ returns-2 c =
     let called = c .before .before in
     let arm = called .before .before .before in
     let start = arm .before .before .before .before in
-    named (ap (λ a. valuesText a (now (start .args .sent))) (sym (arm .answer .given .1))) (called .put-read .ensures)
+    named (ap (λ a. benchValues a (now (start .args .sent))) (sym (arm .answer .given .1))) (called .put-read .ensures)
 
 returns-3 : tie.Need-returns-3
 returns-3 c =
     let start = c .before .before .before .before in
-    named (ap (λ a. valuesText a (now (start .args .sent))) (sym (c .enum-told2 .given .1))) nothing
+    named (ap (λ a. benchValues a (now (start .args .sent))) (sym (c .enum-told2 .given .1))) nothing
 
 same-length-2 : tie.Need-same-length-2
 same-length-2 c = search needs
@@ -60,7 +60,7 @@ returns-4 c =
     let called = c .before .before in
     let arm = called .before .before .before in
     let start = arm .before .before .before .before in
-    named (ap (λ a. valuesText a (now (start .args .sent))) (sym (arm .answer2 .given .1))) (called .put-cycle .ensures)
+    named (ap (λ a. benchValues a (now (start .args .sent))) (sym (arm .answer2 .given .1))) (called .put-cycle .ensures)
 
 same-length-3 : tie.Need-same-length-3
 same-length-3 c = search needs
@@ -70,7 +70,7 @@ returns-5 c =
     let called = c .before .before in
     let arm = called .before .before .before in
     let start = arm .before .before .before .before in
-    named (ap (λ a. valuesText a (now (start .args .sent))) (sym (arm .answer3 .given .1)))
+    named (ap (λ a. benchValues a (now (start .args .sent))) (sym (arm .answer3 .given .1)))
     (called .put-confirm .ensures)
 
 pub put-values-spec : {M : Type 1} → statement M

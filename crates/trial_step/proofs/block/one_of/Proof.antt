@@ -6,14 +6,14 @@ use borrow.Author.Needs.{needs}
 use Rattle.trial_step.proofs.block.one_of.Statement.{statement}
 use Rattle.trial_step.proofs.block.one_of.Tie as tie
 
-mul-domain-of : tie.Need-mul-domain-of
-mul-domain-of c = search needs
+mul-domain-at : tie.Need-mul-domain-at
+mul-domain-at c = search needs
 
-add-domain-of : tie.Need-add-domain-of
-add-domain-of c = search needs
+add-domain-at : tie.Need-add-domain-at
+add-domain-at c = search needs
 
-domain-of-requires : tie.Need-domain-of-requires
-domain-of-requires c κs = search needs
+domain-at-requires : tie.Need-domain-at-requires
+domain-at-requires c κs = search needs
 
 absent-requires : tie.Need-absent-requires
 absent-requires c κs = search needs
@@ -21,7 +21,7 @@ absent-requires c κs = search needs
 returns : tie.Need-returns
 returns c =
     let a = c .before .before .before .args in
-    rw (lt-ltb (a .d) (a .blocks) (omega arith)) (c .domain-of .ensures)
+    rw (lt-ltb (a .d) (a .blocks) (omega arith)) (c .domain-at .ensures)
 
 returns-2 : tie.Need-returns-2
 returns-2 c =
@@ -31,4 +31,4 @@ returns-2 c =
 pub one-of-spec : {M : Type 1} → statement M
 one-of-spec =
     tie.close
-    (tie.spec mul-domain-of add-domain-of domain-of-requires absent-requires returns returns-2)
+    (tie.spec mul-domain-at add-domain-at domain-at-requires absent-requires returns returns-2)

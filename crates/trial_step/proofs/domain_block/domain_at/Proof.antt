@@ -1,10 +1,10 @@
--- `trial_step::block::domain_of` meets its contract: each arm knows the role, and the last that it is none
+-- `trial_step::domain_block::domain_at` meets its contract: each arm knows the role, and the last that it is none
 -- of the three.
 -- Assumes nothing.
 use borrow.Author.Tests.{ne-eqb}
 use borrow.Author.Needs.{needs}
-use Rattle.trial_step.proofs.block.domain_of.Statement.{statement}
-use Rattle.trial_step.proofs.block.domain_of.Tie as tie
+use Rattle.trial_step.proofs.domain_block.domain_at.Statement.{statement}
+use Rattle.trial_step.proofs.domain_block.domain_at.Tie as tie
 
 byte-at-requires : tie.Need-byte-at-requires
 byte-at-requires c κs = search needs
@@ -75,8 +75,8 @@ returns-4 c =
     )
     (c .no-settings .ensures)
 
-pub domain-of-spec : {M : Type 1} → statement M
-domain-of-spec =
+pub domain-at-spec : {M : Type 1} → statement M
+domain-at-spec =
     tie.close
     (tie.spec
     byte-at-requires

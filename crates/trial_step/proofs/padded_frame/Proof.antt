@@ -1,4 +1,4 @@
--- `trial_step::frame_of` meets its contract. The invariant: the frame is the first i payload bytes, and zeros. The
+-- `trial_step::padded_frame` meets its contract. The invariant: the frame is the first i payload bytes, and zeros. The
 -- measure is what is left of the eight. Assumes nothing.
 use Prim.Native.Nat.{ℕ, zero, suc, _+_, _-_, _≤_, _<_}
 use mathlib.Core.Path.{_≡_, refl, sym, ap, _∙_}
@@ -11,8 +11,8 @@ use denote.Ref.{now}
 use borrow.Author.Needs.{needs}
 use Rattle.text.specs.Fields.{bytesAt}
 use Rattle.text.proofs.fields.Laws.{bytes-at-suc}
-use Rattle.trial_step.proofs.frame_of.Statement.{statement}
-use Rattle.trial_step.proofs.frame_of.Tie as tie
+use Rattle.trial_step.proofs.padded_frame.Statement.{statement}
+use Rattle.trial_step.proofs.padded_frame.Tie as tie
 
 abbrev filled : (i : ℕ) → List ℕ → List ℕ
 filled i bytes = bytesAt i bytes 12 ++ replicate (255 - i) 0
@@ -76,8 +76,8 @@ returns c =
     let all : at .loop .i ≡ 8 = omega arith in
     at .loop .inv .1 ∙ ap (λ (k : ℕ). filled k (now (at .before .before .args .bytes))) all
 
-pub frame-of-spec : {M : Type 1} → statement M
-frame-of-spec =
+pub padded-frame-spec : {M : Type 1} → statement M
+padded-frame-spec =
     tie.close
     (tie.spec
     Inv-loop

@@ -1,9 +1,9 @@
--- `trial_step::block::mode_of` meets its contract: each arm knows the code, and the last that it is none
+-- `trial_step::domain_block::mode_of` meets its contract: each arm knows the code, and the last that it is none
 -- of the four.
 -- Assumes nothing.
 use borrow.Author.Tests.{ne-eqb}
-use Rattle.trial_step.proofs.block.mode_of.Statement.{statement}
-use Rattle.trial_step.proofs.block.mode_of.Tie as tie
+use Rattle.trial_step.proofs.domain_block.mode_of.Statement.{statement}
+use Rattle.trial_step.proofs.domain_block.mode_of.Tie as tie
 
 returns : tie.Need-returns
 returns c = rw (c .match .keys1)

@@ -1,9 +1,9 @@
--- `trial_step::block::confirmation_time` meets its contract: the test is the definition's.
+-- `trial_step::domain_block::confirmation_time` meets its contract: the test is the definition's.
 -- Assumes nothing.
 use borrow.Author.Tests.{lt-ltb, le-ltb}
 use borrow.Author.Needs.{needs}
-use Rattle.trial_step.proofs.block.confirmation_time.Statement.{statement}
-use Rattle.trial_step.proofs.block.confirmation_time.Tie as tie
+use Rattle.trial_step.proofs.domain_block.confirmation_time.Statement.{statement}
+use Rattle.trial_step.proofs.domain_block.confirmation_time.Tie as tie
 
 cast-result : tie.Need-cast-result
 cast-result c = search needs

@@ -1,9 +1,9 @@
--- `trial_step::block::sends_as` meets its contract: each arm knows the code, and the last that it is neither
+-- `trial_step::domain_block::sends_as` meets its contract: each arm knows the code, and the last that it is neither
 -- of the two.
 -- Assumes nothing.
 use borrow.Author.Tests.{ne-eqb}
-use Rattle.trial_step.proofs.block.sends_as.Statement.{statement}
-use Rattle.trial_step.proofs.block.sends_as.Tie as tie
+use Rattle.trial_step.proofs.domain_block.sends_as.Statement.{statement}
+use Rattle.trial_step.proofs.domain_block.sends_as.Tie as tie
 
 returns : tie.Need-returns
 returns c = rw (c .match .keys1)

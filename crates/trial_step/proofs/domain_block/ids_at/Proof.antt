@@ -1,8 +1,8 @@
--- `trial_step::block::ids_at` meets its contract: the lists are the definition's, by what `sixteen_at` ensures.
+-- `trial_step::domain_block::ids_at` meets its contract: the lists are the definition's, by what `sixteen_at` ensures.
 -- Assumes nothing.
 use borrow.Author.Needs.{needs}
-use Rattle.trial_step.proofs.block.ids_at.Statement.{statement}
-use Rattle.trial_step.proofs.block.ids_at.Tie as tie
+use Rattle.trial_step.proofs.domain_block.ids_at.Statement.{statement}
+use Rattle.trial_step.proofs.domain_block.ids_at.Tie as tie
 
 sixteen-at-requires : tie.Need-sixteen-at-requires
 sixteen-at-requires c κs = search needs

@@ -1,0 +1,2 @@
+-- The laws of `trial_step::domain_block`.
+pub mod Refused
