@@ -5,7 +5,7 @@ use Rattle.text.specs.Text.{hexByte}
 use Rattle.text.specs.Lines.{blank, newline, answerText, timeText}
 use Rattle.call_read.specs.declared.Shown.{Shown}
 use Rattle.node_call.specs.declared.CallAnswer.{CallAnswer}
-use Rattle.node_call.specs.Called.{numberOf}
+use Rattle.node_call.specs.Calls.{callNumber}
 
 -- ---- "seconds, a point, nine digits, and the status as two hex digits", a blank before each of the two
 abbrev pub shownText : Shown → List ℕ
@@ -13,4 +13,4 @@ shownText shown = blank ++ timeText (shown .time) ++ blank ++ hexByte (shown .st
 
 -- ---- "A line is the record's number from 1 and the answer", and the values that it adds.
 abbrev pub lineWith : (item : ℕ) → CallAnswer → (values : List ℕ) → List ℕ
-lineWith item answer values = answerText item (numberOf answer) ++ values ++ newline
+lineWith item answer values = answerText item (callNumber answer) ++ values ++ newline

@@ -9,8 +9,8 @@ use Rattle.text.specs.Lines.{badText}
 use Rattle.node.specs.declared.Node.{Node}
 use Rattle.node_call.specs.declared.Request.{Request}
 use Rattle.node_call.specs.declared.CallAnswer.{CallAnswer}
-use Rattle.node_call.specs.Calls.{nodeAfter}
-use Rattle.node_call.specs.Called.{callOf, answerOf, bytesAfter}
+use Rattle.node_call.specs.Calls.{nodeAfter, answerOf, bytesAfter}
+use Rattle.node_call.specs.Called.{callOf}
 use Rattle.bench_record.specs.declared.Asked.{Asked}
 use Rattle.bench_record.specs.declared.Asked.the-variants.{Call, Bad}
 use Rattle.bench_record.specs.declared.step.Step.{Step}

@@ -4,7 +4,6 @@ use call_read::ReadAnswer;
 use master_confirm::ConfirmAnswer;
 use node::CycleAnswer;
 use node_call::CallAnswer;
-use node_call::call_number;
 use text::lines::put_answer;
 use text::put_byte;
 use text::put_decimal;
@@ -29,7 +28,7 @@ pub fn put_bench_line(
 ) -> usize
     ensures { λ r. ⌜ Puts (benchLine item answer (now (sent .entry))) at (now (out .entry)) r (now (out .exit)) ⌝ }
 {
-    let values = put_answer(out, at, item, call_number(answer));
+    let values = put_answer(out, at, item, answer.number());
     let end = put_values(out, values, answer, sent);
     put_byte(out, end, b'\n')
 }

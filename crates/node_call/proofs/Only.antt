@@ -10,7 +10,8 @@ use Rattle.node.specs.declared.Node.{Node}
 use Rattle.node_call.specs.declared.Request.{Request}
 use Rattle.node_call.specs.declared.CallAnswer.{CallAnswer}
 use Rattle.node_call.specs.declared.Called.{Called}
-use Rattle.node_call.specs.Called.{numberOf, CalledIn}
+use Rattle.node_call.specs.Calls.{callNumber}
+use Rattle.node_call.specs.Called.{CalledIn}
 
 pub call-only :
     (n : Node) (q : Request) (given before : List ℕ) →
@@ -21,5 +22,5 @@ call-only n q given before x y p q′ =
     let bytes = p .bytes ∙ sym (q′ .bytes) in
     λ i. (record { answer = answer i; node = node i }, bytes i)
 
-pub call-number-only : (answer : CallAnswer) → OnlyOne (λ (r : ℕ). r ≡ numberOf answer)
-call-number-only answer = equation-only (numberOf answer)
+pub number-only : (answer : CallAnswer) → OnlyOne (λ (r : ℕ). r ≡ callNumber answer)
+number-only answer = equation-only _

@@ -9,8 +9,6 @@ use Rattle.master_set.specs.Set.{setNumber}
 use Rattle.master_confirm.specs.Confirm.{confirmNumber}
 use Rattle.call_read.specs.declared.Shown.{Shown}
 use Rattle.call_read.specs.Answer.{readNumber, readValues}
-use Rattle.call_confirm.specs.ConfirmCall.{confirmBytes}
-use Rattle.domain.specs.Records.{recordAt}
 use Rattle.node.specs.declared.Node.{Node}
 use Rattle.node.specs.Frame.{nodeFrameOf}
 use Rattle.node.specs.Read.{nodeReadOf}
@@ -18,6 +16,8 @@ use Rattle.node.specs.Set.{nodeSetOf}
 use Rattle.node.specs.CycleAnswer.{cycleNumber, cycleCount}
 use Rattle.node.specs.Cycle.{nodeCycleOf, cycleBytes}
 use Rattle.node.specs.Confirm.{nodeConfirmOf, confirmedBytes}
+use Rattle.node_call.specs.declared.CallAnswer.{CallAnswer}
+use Rattle.node_call.specs.declared.CallAnswer.the-variants.{Frame, Read, Set, Cycle, Confirm}
 
 -- ---- A call; a lent buffer by what it holds.
 pub data Call : Type 0 where
@@ -35,24 +35,55 @@ nodeAfter n (set domain t s ns) = nodeSetOf n domain t s ns .node
 nodeAfter n (cycle t out) = nodeCycleOf n t (length out) .node
 nodeAfter n (confirm domain t counter out) = nodeConfirmOf n domain t counter (length out) .node
 
--- ---- Its number, and its values: what a read shows, how many frames a main cycle sent, and the lent
--- buffer after the call.
+-- ---- Its answer, a case of an enum.
+abbrev pub answerOf : Node → Call → CallAnswer
+answerOf n (frame t bytes) = Frame (nodeFrameOf n t bytes .answer)
+answerOf n (read domain t) = Read (nodeReadOf n domain t)
+answerOf n (set domain t s ns) = Set (nodeSetOf n domain t s ns .answer)
+answerOf n (cycle t out) = Cycle (nodeCycleOf n t (length out) .answer)
+answerOf n (confirm domain t counter out) = Confirm (nodeConfirmOf n domain t counter (length out) .answer)
+
+abbrev pub callNumber : CallAnswer → ℕ
+callNumber (Frame answer) = frameNumber answer
+callNumber (Read answer) = readNumber answer
+callNumber (Set answer) = setNumber answer
+callNumber (Cycle answer) = cycleNumber answer
+callNumber (Confirm answer) = confirmNumber answer
+
+-- ---- A buffer after it: a call that is lent none leaves it.
+abbrev pub bytesAfter : Node → Call → (before : List ℕ) → List ℕ
+bytesAfter n (frame t bytes) before = before
+bytesAfter n (read domain t) before = before
+bytesAfter n (set domain t s ns) before = before
+bytesAfter n (cycle t out) before = cycleBytes (nodeCycleOf n t (length out) .answer) n t out
+bytesAfter n (confirm domain t counter out) before =
+    confirmedBytes (nodeConfirmOf n domain t counter (length out) .answer) n domain out
+
+-- ---- The bytes that a call is lent.
+abbrev pub lentTo : Call → List ℕ
+lentTo (frame t bytes) = []
+lentTo (read domain t) = []
+lentTo (set domain t s ns) = []
+lentTo (cycle t out) = out
+lentTo (confirm domain t counter out) = out
+
+-- ---- What a case tells: its number, and its values: what a read shows, how many frames a main cycle sent, and the
+-- lent buffer after the call.
 pub data Answer : Type 0 where
   numbered : (number : ℕ) → Answer
   shows : (number : ℕ) → Shown → Answer
   sends : (number count : ℕ) (out : List ℕ) → Answer
   follows : (number : ℕ) (out : List ℕ) → Answer
 
+abbrev pub toldBy : CallAnswer → (out : List ℕ) → Answer
+toldBy (Frame answer) out = numbered (frameNumber answer)
+toldBy (Read answer) out = shows (readNumber answer) (readValues answer)
+toldBy (Set answer) out = numbered (setNumber answer)
+toldBy (Cycle answer) out = sends (cycleNumber answer) (cycleCount answer) out
+toldBy (Confirm answer) out = follows (confirmNumber answer) out
+
 abbrev pub answerTo : Node → Call → Answer
-answerTo n (frame t bytes) = numbered (frameNumber (nodeFrameOf n t bytes .answer))
-answerTo n (read domain t) = shows (readNumber (nodeReadOf n domain t)) (readValues (nodeReadOf n domain t))
-answerTo n (set domain t s ns) = numbered (setNumber (nodeSetOf n domain t s ns .answer))
-answerTo n (cycle t out) =
-    let r = nodeCycleOf n t (length out) in
-    sends (cycleNumber (r .answer)) (cycleCount (r .answer)) (cycleBytes (r .answer) n t out)
-answerTo n (confirm domain t counter out) =
-    let r = nodeConfirmOf n domain t counter (length out) in
-    follows (confirmNumber (r .answer)) (confirmedBytes (r .answer) n domain out)
+answerTo n c = toldBy (answerOf n c) (bytesAfter n c (lentTo c))
 
 -- ---- The number alone.
 abbrev pub numberIn : Answer → ℕ
@@ -71,14 +102,7 @@ abbrev pub nodeAfterAll : Node → List Call → Node
 nodeAfterAll n [] = n
 nodeAfterAll n (c ∷ rest) = nodeAfterAll (nodeAfter n c) rest
 
--- ---- The bytes that a call is lent, and those after it; the frames counted.
-abbrev pub lentTo : Call → List ℕ
-lentTo (frame t bytes) = []
-lentTo (read domain t) = []
-lentTo (set domain t s ns) = []
-lentTo (cycle t out) = out
-lentTo (confirm domain t counter out) = out
-
+-- ---- The lent bytes after a call; the frames counted.
 abbrev pub lentAfter : Answer → List ℕ
 lentAfter (numbered number) = []
 lentAfter (shows number shown) = []

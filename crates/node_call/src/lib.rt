@@ -13,7 +13,8 @@ use node::on_read;
 use node::on_set;
 use slave_answer::FrameAnswer;
 ghost use mathlib.Core.Path.{_≡_};
-ghost use Rattle.node_call.specs.Called.{numberOf, CalledIn};
+ghost use Rattle.node_call.specs.Calls.{callNumber};
+ghost use Rattle.node_call.specs.Called.{CalledIn};
 
 pub enum Request {
     // At a reading.
@@ -34,6 +35,21 @@ pub enum CallAnswer {
     Set(SetAnswer),
     Cycle(CycleAnswer),
     Confirm(ConfirmAnswer),
+}
+
+impl CallAnswer {
+    // The paper's number.
+    pub fn number(self) -> u8
+        ensures { λ r. ⌜ r ≡ callNumber self ⌝ }
+    {
+        match self {
+            CallAnswer::Frame(frame) => frame.number(),
+            CallAnswer::Read(read) => read.number(),
+            CallAnswer::Set(set) => set.number(),
+            CallAnswer::Cycle(cycle) => cycle.number(),
+            CallAnswer::Confirm(confirm) => confirm.number(),
+        }
+    }
 }
 
 pub struct Called {
@@ -86,18 +102,5 @@ pub fn call(node: Node, request: Request, frame: &[u8], out: &mut [u8]) -> Calle
                 node: after,
             }
         }
-    }
-}
-
-// The paper's number.
-pub fn call_number(answer: CallAnswer) -> u8
-    ensures { λ r. ⌜ r ≡ numberOf answer ⌝ }
-{
-    match answer {
-        CallAnswer::Frame(frame) => frame.number(),
-        CallAnswer::Read(read) => read.number(),
-        CallAnswer::Set(set) => set.number(),
-        CallAnswer::Cycle(cycle) => cycle.number(),
-        CallAnswer::Confirm(confirm) => confirm.number(),
     }
 }

@@ -6,9 +6,7 @@ use lib.Dec.{ltb}
 use lib.ListN.{getD, take, replicate}
 use Rattle.text.specs.Fields.{pairAt, bytesAt}
 use Rattle.text.specs.Lines.{newline, answerText}
-use Rattle.refusal.specs.Numbers.{numberOf}
-use Rattle.settings.specs.declared.node_settings.Verdict.{Verdict}
-use Rattle.settings.specs.declared.node_settings.Verdict.the-variants.{Good, Refused}
+use Rattle.settings.specs.Node.{verdictNumber}
 use Rattle.node.specs.declared.Node.{Node}
 use Rattle.node.specs.declared.NewNode.{NewNode}
 use Rattle.node.specs.New.{newOf}
@@ -44,10 +42,6 @@ abbrev pub lentBuffer : (bytes : List ℕ) → Request → List ℕ
 lentBuffer bytes q = replicate (lentLength q bytes) 0xA5
 
 -- ---- The node that the settings give takes the place of the one before, also when refused.
-abbrev pub verdictNumber : Verdict → ℕ
-verdictNumber Good = 0
-verdictNumber (Refused refusal) = numberOf refusal
-
 abbrev pub renewedBy : List ℕ → NewNode
 renewedBy bytes = newOf (settingsOf bytes)
 

@@ -14,7 +14,6 @@ use bench_record::step::bad_record;
 use node::Node;
 use node_call::Request;
 use node_call::call;
-use settings::Verdict;
 use text::fields::byte_at;
 use text::fields::pair_at;
 use text::lines::put_answer;
@@ -28,7 +27,6 @@ ghost use Rattle.trial_step.specs.Step.{
   atMost512,
   lentLength,
   lentBuffer,
-  verdictNumber,
   Renewed,
   TrialStepped,
 };
@@ -73,21 +71,12 @@ fn renew(item: u64, bytes: &[u8], out: &mut [u8], at: usize) -> Step
     let new = Node::new(settings_of(bytes));
     let verdict = new.verdict;
     let node = new.node;
-    let newline = put_answer(out, at, item, verdict_number(verdict));
+    let newline = put_answer(out, at, item, verdict.number());
     let end = put_byte(out, newline, b'\n');
     Step {
         node,
         at: end,
         goes_on: true,
-    }
-}
-
-fn verdict_number(verdict: Verdict) -> u8
-    ensures { λ r. ⌜ r ≡ verdictNumber verdict ⌝ }
-{
-    match verdict {
-        Verdict::Good => 0,
-        Verdict::Refused(refusal) => refusal.number(),
     }
 }
 

@@ -3,7 +3,6 @@ use bench_record::line::put_shown;
 use call_read::ReadAnswer;
 use node::CycleAnswer;
 use node_call::CallAnswer;
-use node_call::call_number;
 use settings::UserBytes;
 use text::lines::put_answer;
 use text::put_byte;
@@ -31,7 +30,7 @@ pub fn put_trial_line(
 ) -> usize
     ensures { λ r. ⌜ Puts (trialLine item answer (now (buffer .entry))) at (now (out .entry)) r (now (out .exit)) ⌝ }
 {
-    let values = put_answer(out, at, item, call_number(answer));
+    let values = put_answer(out, at, item, answer.number());
     let end = put_values(out, values, answer, buffer);
     put_byte(out, end, b'\n')
 }

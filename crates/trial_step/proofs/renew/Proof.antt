@@ -11,7 +11,8 @@ use Rattle.text.proofs.Laws.{then, named}
 use Rattle.text.specs.Lines.{newline, answerText}
 use Rattle.node.specs.declared.NewNode.{NewNode}
 use Rattle.node.specs.New.{newOf}
-use Rattle.trial_step.specs.Step.{verdictNumber, renewedBy, Renewed}
+use Rattle.settings.specs.Node.{verdictNumber}
+use Rattle.trial_step.specs.Step.{renewedBy, Renewed}
 use Rattle.trial_step.proofs.renew.Statement.{statement}
 use Rattle.trial_step.proofs.renew.Tie as tie
 
@@ -33,8 +34,8 @@ settings-of-requires c κs = search needs
 new-requires : tie.Need-new-requires
 new-requires c κs = search needs
 
-verdict-number-requires : tie.Need-verdict-number-requires
-verdict-number-requires c κs = search needs
+number-requires : tie.Need-number-requires
+number-requires c κs = search needs
 
 put-answer-requires : tie.Need-put-answer-requires
 put-answer-requires c κs = search needs
@@ -54,7 +55,7 @@ returns c =
     let a = made .before .before .before .before .args in
     renewed (a .item) (now (a .bytes))
     (made .new .ensures ∙ ap newOf (made .before .settings-of .ensures))
-    (told .verdict-number .ensures)
+    (told .number .ensures)
     (answered .put-answer .ensures)
     (ended .put-byte .ensures)
 
@@ -64,7 +65,7 @@ renew-spec =
     (tie.spec
     settings-of-requires
     new-requires
-    verdict-number-requires
+    number-requires
     put-answer-requires
     put-byte-requires
     same-length

@@ -7,8 +7,8 @@ use Rattle.text.specs.Lines.{answerText}
 use Rattle.bench_step.proofs.line.put_bench_line.Statement.{statement}
 use Rattle.bench_step.proofs.line.put_bench_line.Tie as tie
 
-call-number-requires : tie.Need-call-number-requires
-call-number-requires c κs = search needs
+number-requires : tie.Need-number-requires
+number-requires c κs = search needs
 
 put-answer-requires : tie.Need-put-answer-requires
 put-answer-requires c κs = search needs
@@ -29,14 +29,14 @@ returns c =
     let first = middle .before .before .before .before in
     let number = first .before in
     let item = number .before .before .before .before .args .item in
-    let answer = named (ap (answerText item) (number .call-number .ensures)) (first .put-answer .ensures) in
+    let answer = named (ap (answerText item) (number .number .ensures)) (first .put-answer .ensures) in
     then (then answer (middle .put-values .ensures)) (last .put-byte .ensures)
 
 pub put-bench-line-spec : {M : Type 1} → statement M
 put-bench-line-spec =
     tie.close
     (tie.spec
-    call-number-requires
+    number-requires
     put-answer-requires
     put-values-requires
     put-byte-requires

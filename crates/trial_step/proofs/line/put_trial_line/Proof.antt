@@ -7,8 +7,8 @@ use Rattle.text.specs.Lines.{answerText}
 use Rattle.trial_step.proofs.line.put_trial_line.Statement.{statement}
 use Rattle.trial_step.proofs.line.put_trial_line.Tie as tie
 
-call-number-requires : tie.Need-call-number-requires
-call-number-requires c κs = search needs
+number-requires : tie.Need-number-requires
+number-requires c κs = search needs
 
 put-answer-requires : tie.Need-put-answer-requires
 put-answer-requires c κs = search needs
@@ -31,7 +31,7 @@ returns c =
     let item = number .before .before .before .before .args .item in
     then
     (then
-    (named (ap (answerText item) (number .call-number .ensures)) (first .put-answer .ensures))
+    (named (ap (answerText item) (number .number .ensures)) (first .put-answer .ensures))
     (middle .put-values .ensures))
     (last .put-byte .ensures)
 
@@ -39,7 +39,7 @@ pub put-trial-line-spec : {M : Type 1} → statement M
 put-trial-line-spec =
     tie.close
     (tie.spec
-    call-number-requires
+    number-requires
     put-answer-requires
     put-values-requires
     put-byte-requires
