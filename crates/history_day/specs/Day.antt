@@ -8,10 +8,11 @@ use Rattle.frame.specs.declared.data_ids.DataIds.{DataIds}
 use Rattle.frame_check.specs.declared.CheckMode.the-variants.{Validated, NotValidated}
 use Rattle.settings.specs.declared.domain_settings.DomainSettings.{DomainSettings}
 use Rattle.settings.specs.declared.domain_settings.Security.the-variants.{Plain, Secured}
+use Rattle.settings.specs.Domain.{asMaster}
 use Rattle.node_call.specs.Calls.{read, set, cycle}
 use Rattle.history.specs.History.{Link, Event, atMaster, atSlave, History}
 use Rattle.history.specs.Demand.{Copy}
-use Rattle.history_day.specs.Settings.{arrives, confirmsIn, copyOf, masterFor, slaveFor, absents, noIds, millis, ms}
+use Rattle.history_day.specs.Settings.{arrives, confirmsIn, copyOf, slaveFor, absents, noIds, millis, ms}
 
 -- ---- domain 5: P 1 s, C 200 ms, secured; J 1, F 300 ms, L 2.5 s, validated; the same DataIDs
 abbrev dayIds : DataIds
@@ -26,14 +27,14 @@ dayIds =
     }
 
 abbrev dayMaster : DomainSettings
-dayMaster = masterFor (millis 1000) (millis 200) Secured (record { 0 = 0x11; 1 = 0x22; 2 = 0x33 }) dayIds
+dayMaster = asMaster (millis 1000) (millis 200) Secured (record { 0 = 0x11; 1 = 0x22; 2 = 0x33 }) dayIds
 
 abbrev daySlave : DomainSettings
 daySlave = slaveFor 1 (millis 300) (millis 2500) Validated dayIds
 
 -- ---- the master's node is master of domain 9 too, S 2; the slave's node is slave of domain 6 too
 abbrev otherMaster : DomainSettings
-otherMaster = masterFor (millis 1000) (millis 200) Plain (record { 0 = 0x44; 1 = 0x55; 2 = 0x66 }) noIds
+otherMaster = asMaster (millis 1000) (millis 200) Plain (record { 0 = 0x44; 1 = 0x55; 2 = 0x66 }) noIds
 
 abbrev otherSlave : DomainSettings
 otherSlave = slaveFor 2 (millis 300) (millis 2500) NotValidated noIds

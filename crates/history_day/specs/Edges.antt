@@ -7,10 +7,11 @@ use lib.ListN.{replicate, set as put}
 use Rattle.clock.specs.declared.base.TimeBase.{TimeBase}
 use Rattle.frame_check.specs.declared.CheckMode.the-variants.{NotValidated}
 use Rattle.settings.specs.declared.domain_settings.Security.the-variants.{Plain}
+use Rattle.settings.specs.Domain.{asMaster}
 use Rattle.node_call.specs.Calls.{set, cycle}
 use Rattle.history.specs.History.{Link, Event, atMaster, History}
 use Rattle.history.specs.Demand.{Copy}
-use Rattle.history_day.specs.Settings.{arrives, confirmsIn, copyOf, masterFor, slaveFor, absents, noIds, millis, ms}
+use Rattle.history_day.specs.Settings.{arrives, confirmsIn, copyOf, slaveFor, absents, noIds, millis, ms}
 
 -- ---- domain 0, plain frames, P 100 ms, J 1, L 2 s, one clock; E, F and C in milliseconds
 abbrev edgeWith : (e f c : ℕ) → Link
@@ -19,7 +20,7 @@ edgeWith e f c =
       master =
           record {
             «syncs_per_cycle» = 1;
-            domains = put absents 0 (masterFor (millis 100) (millis c) Plain (record { 0 = 0; 1 = 0; 2 = 0 }) noIds);
+            domains = put absents 0 (asMaster (millis 100) (millis c) Plain (record { 0 = 0; 1 = 0; 2 = 0 }) noIds);
           };
       slave =
           record {

@@ -6,53 +6,16 @@ use lib.ListN.{replicate}
 use Rattle.clock.specs.declared.reading.VirtualLocalTime.{VirtualLocalTime}
 use Rattle.frame.specs.declared.data_ids.DataIds.{DataIds}
 use Rattle.frame_check.specs.declared.CheckMode.{CheckMode}
-use Rattle.frame_check.specs.declared.CheckMode.the-variants.{Validated}
 use Rattle.settings.specs.declared.domain_settings.DomainSettings.{DomainSettings}
-use Rattle.settings.specs.declared.domain_settings.Role.the-variants.{Slave, Master}
-use Rattle.settings.specs.declared.domain_settings.Security.{Security}
-use Rattle.settings.specs.declared.domain_settings.Security.the-variants.{Plain}
-use Rattle.settings.specs.declared.domain_settings.UserBytes.{UserBytes}
-use Rattle.settings.specs.Domain.{absentHeld}
+use Rattle.settings.specs.Domain.{absentHeld, asSlave}
 use Rattle.settings.specs.Node.{places}
 use Rattle.node_call.specs.Calls.{frame, confirm}
 use Rattle.history.specs.History.{Event, atMaster, atSlave}
 use Rattle.history.specs.Demand.{Copy}
 
--- ---- a master: P, C, plain or secured, its user bytes, its DataIDs
-abbrev pub masterFor : (p c : ℕ) → Security → UserBytes → DataIds → DomainSettings
-masterFor p c security user ids =
-    record {
-      «follow_up_time» = 0;
-      «loss_time» = 0;
-      «future_threshold» = 0;
-      «past_threshold» = 0;
-      period = p;
-      «confirmation_time» = c;
-      ids = ids;
-      role = Master;
-      mode = Validated;
-      «jump_width» = 0;
-      security = security;
-      user = user;
-    }
-
 -- ---- a slave: J, F, L, its check mode, its DataIDs; leaps not checked
 abbrev pub slaveFor : (j f l : ℕ) → CheckMode → DataIds → DomainSettings
-slaveFor j f l mode ids =
-    record {
-      «follow_up_time» = f;
-      «loss_time» = l;
-      «future_threshold» = 0;
-      «past_threshold» = 0;
-      period = 0;
-      «confirmation_time» = 0;
-      ids = ids;
-      role = Slave;
-      mode = mode;
-      «jump_width» = j;
-      security = Plain;
-      user = record { 0 = 0; 1 = 0; 2 = 0 };
-    }
+slaveFor j f l mode ids = asSlave j f l 0 0 mode ids
 
 -- ---- sixteen domains, all absent; DataIDs all 0
 abbrev pub absents : List DomainSettings

@@ -1,11 +1,16 @@
 -- Paper 01, "Settings of a node": the settings of one domain. Assumes nothing.
+use Prim.Native.Nat.{ℕ}
 use lib.ListN.{replicate}
 use Rattle.frame.specs.ByteTwo.{counters}
+use Rattle.frame.specs.declared.data_ids.DataIds.{DataIds}
+use Rattle.frame_check.specs.declared.CheckMode.{CheckMode}
 use Rattle.frame_check.specs.declared.CheckMode.the-variants.{Validated}
 use Rattle.settings.specs.declared.domain_settings.DomainSettings.{DomainSettings}
 use Rattle.settings.specs.declared.domain_settings.Role.{Role}
 use Rattle.settings.specs.declared.domain_settings.Role.the-variants.{Absent, Slave, Master}
+use Rattle.settings.specs.declared.domain_settings.Security.{Security}
 use Rattle.settings.specs.declared.domain_settings.Security.the-variants.{Plain}
+use Rattle.settings.specs.declared.domain_settings.UserBytes.{UserBytes}
 
 -- ---- "What isn't read is held as 0.": of an enum the first case, which the type has as 0
 abbrev pub absentHeld : DomainSettings
@@ -25,39 +30,48 @@ absentHeld =
       user = record { 0 = 0; 1 = 0; 2 = 0 };
     }
 
-abbrev pub slaveHeld : DomainSettings → DomainSettings
-slaveHeld s =
+-- ---- a slave's settings, and a master's: what the other role has read is 0
+abbrev pub asSlave : (j f l future past : ℕ) → CheckMode → DataIds → DomainSettings
+asSlave j f l future past mode ids =
     record {
-      «follow_up_time» = s .«follow_up_time»;
-      «loss_time» = s .«loss_time»;
-      «future_threshold» = s .«future_threshold»;
-      «past_threshold» = s .«past_threshold»;
+      «follow_up_time» = f;
+      «loss_time» = l;
+      «future_threshold» = future;
+      «past_threshold» = past;
       period = 0;
       «confirmation_time» = 0;
-      ids = s .ids;
+      ids = ids;
       role = Slave;
-      mode = s .mode;
-      «jump_width» = s .«jump_width»;
+      mode = mode;
+      «jump_width» = j;
       security = Plain;
       user = record { 0 = 0; 1 = 0; 2 = 0 };
     }
 
-abbrev pub masterHeld : DomainSettings → DomainSettings
-masterHeld s =
+abbrev pub asMaster : (p c : ℕ) → Security → UserBytes → DataIds → DomainSettings
+asMaster p c security user ids =
     record {
       «follow_up_time» = 0;
       «loss_time» = 0;
       «future_threshold» = 0;
       «past_threshold» = 0;
-      period = s .period;
-      «confirmation_time» = s .«confirmation_time»;
-      ids = s .ids;
+      period = p;
+      «confirmation_time» = c;
+      ids = ids;
       role = Master;
       mode = Validated;
       «jump_width» = 0;
-      security = s .security;
-      user = s .user;
+      security = security;
+      user = user;
     }
+
+abbrev pub slaveHeld : DomainSettings → DomainSettings
+slaveHeld s =
+    asSlave (s .«jump_width») (s .«follow_up_time») (s .«loss_time») (s .«future_threshold») (s .«past_threshold»)
+    (s .mode) (s .ids)
+
+abbrev pub masterHeld : DomainSettings → DomainSettings
+masterHeld s = asMaster (s .period) (s .«confirmation_time») (s .security) (s .user) (s .ids)
 
 abbrev pub heldAs : Role → DomainSettings → DomainSettings
 heldAs Absent s = absentHeld

@@ -8,9 +8,8 @@ use Rattle.text.specs.Fields.{longAt, bytesAt}
 use Rattle.frame.specs.declared.data_ids.DataIds.{DataIds}
 use Rattle.frame_check.specs.declared.CheckMode.the-variants.{Validated, NotValidated, Ignored, Optional}
 use Rattle.settings.specs.declared.domain_settings.DomainSettings.{DomainSettings}
-use Rattle.settings.specs.declared.domain_settings.Role.the-variants.{Slave, Master}
 use Rattle.settings.specs.declared.domain_settings.Security.the-variants.{Plain, Secured}
-use Rattle.settings.specs.Domain.{absentHeld, slaveHeld}
+use Rattle.settings.specs.Domain.{absentHeld, asSlave, asMaster, slaveHeld}
 use Rattle.trial_step.specs.declared.domain_block.Mode.{Mode}
 use Rattle.trial_step.specs.declared.domain_block.Mode.the-variants as mode
 use Rattle.trial_step.specs.declared.domain_block.Sends.{Sends}
@@ -44,38 +43,14 @@ noSettings = slaveHeld absentHeld
 -- L, future, past, P, C; then the DataIDs. A role's settings alone are read.
 abbrev pub slaveAs : Mode → List ℕ → (at : ℕ) → DomainSettings
 slaveAs (mode.Is m) item at =
-    record {
-      «follow_up_time» = longAt item (at + 8);
-      «loss_time» = longAt item (at + 16);
-      «future_threshold» = longAt item (at + 24);
-      «past_threshold» = longAt item (at + 32);
-      period = 0;
-      «confirmation_time» = 0;
-      ids = idsAt item (at + 56);
-      role = Slave;
-      mode = m;
-      «jump_width» = getD item (at + 2) 0;
-      security = Plain;
-      user = record { 0 = 0; 1 = 0; 2 = 0 };
-    }
+    asSlave (getD item (at + 2) 0) (longAt item (at + 8)) (longAt item (at + 16)) (longAt item (at + 24))
+    (longAt item (at + 32)) m (idsAt item (at + 56))
 slaveAs mode.Unknown item at = noSettings
 
 abbrev pub masterAs : Sends → List ℕ → (at : ℕ) → DomainSettings
 masterAs (sends.As security) item at =
-    record {
-      «follow_up_time» = 0;
-      «loss_time» = 0;
-      «future_threshold» = 0;
-      «past_threshold» = 0;
-      period = longAt item (at + 40);
-      «confirmation_time» = confirmationTime (longAt item (at + 48));
-      ids = idsAt item (at + 56);
-      role = Master;
-      mode = Validated;
-      «jump_width» = 0;
-      security = security;
-      user = record { 0 = getD item (at + 4) 0; 1 = getD item (at + 5) 0; 2 = getD item (at + 6) 0 };
-    }
+    asMaster (longAt item (at + 40)) (confirmationTime (longAt item (at + 48))) security
+    (record { 0 = getD item (at + 4) 0; 1 = getD item (at + 5) 0; 2 = getD item (at + 6) 0 }) (idsAt item (at + 56))
 masterAs sends.Unknown item at = noSettings
 
 -- ---- Role: 0 absent, 1 slave, 2 master.
