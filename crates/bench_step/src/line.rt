@@ -8,7 +8,6 @@ use text::lines::put_answer;
 use text::put_byte;
 use text::put_decimal;
 use text::put_hex;
-ghost use mathlib.Core.Path.{_≡_};
 ghost use Rattle.text.specs.Text.{Puts};
 ghost use Rattle.bench_step.specs.BenchLine.{
   benchRead,

@@ -1,5 +1,5 @@
--- `bench_step::line::put_cycle` meets its contract: a refusal adds nothing, and a cycle the count and its frame, if any.
--- Assumes nothing.
+-- `bench_step::line::put_cycle` meets its contract: a refusal adds nothing, and a cycle the count and its frame, if
+-- any. Assumes nothing.
 use mathlib.Core.Path.{sym, ap}
 use denote.Ref.{now}
 use borrow.Author.Needs.{needs}

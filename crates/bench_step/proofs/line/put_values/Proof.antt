@@ -60,7 +60,8 @@ returns-4 c =
     let called = c .before .before in
     let arm = called .before .before .before in
     let start = arm .before .before .before .before in
-    named (ap (λ a. benchValues a (now (start .args .sent))) (sym (arm .answer2 .given .1))) (called .put-cycle .ensures)
+    named (ap (λ a. benchValues a (now (start .args .sent))) (sym (arm .answer2 .given .1)))
+    (called .put-cycle .ensures)
 
 same-length-3 : tie.Need-same-length-3
 same-length-3 c = search needs

@@ -1,5 +1,5 @@
--- `trial_step::line::put_read` meets its contract: a refusal adds nothing, and a read the time, the status, the user bytes
--- and the update counter, a blank before each. What was written keeps the length. Assumes nothing.
+-- `trial_step::line::put_read` meets its contract: a refusal adds nothing, and a read the time and the status, then the
+-- user bytes and the update counter, a blank before each. What was written keeps the length. Assumes nothing.
 use mathlib.Core.Path.{sym, ap}
 use borrow.Author.Needs.{needs}
 use Rattle.text.proofs.Laws.{then, named, nothing, length-kept}

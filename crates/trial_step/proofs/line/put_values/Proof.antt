@@ -56,7 +56,8 @@ returns-2 c =
     let called = c .before .before in
     let arm = called .before .before .before in
     let start = arm .before .before .before .before in
-    named (ap (λ a. trialValues a (now (start .args .buffer))) (sym (arm .answer .given .1))) (called .put-read .ensures)
+    named (ap (λ a. trialValues a (now (start .args .buffer))) (sym (arm .answer .given .1)))
+    (called .put-read .ensures)
 
 returns-3 : tie.Need-returns-3
 returns-3 c =
