@@ -1,2 +1,3 @@
 -- The laws of `admission`.
+pub mod Laws
 pub mod Only

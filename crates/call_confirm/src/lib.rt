@@ -2,15 +2,15 @@
 use admission::Admission;
 use admission::Needed;
 use admission::admit;
+use admission::kept_after;
 use clock::VirtualLocalTime;
 use domain::Domain;
 use frame::Frame;
 use frame_write::write_frame;
 use master_confirm::ConfirmAnswer;
 use master_confirm::confirm;
-use refusal::Refusal;
 ghost use mathlib.Core.Path.{_≡_};
-ghost use Rattle.call_confirm.specs.ConfirmCall.{withRoom, ConfirmedIn};
+ghost use Rattle.call_confirm.specs.ConfirmCall.{ConfirmedIn};
 
 pub struct ConfirmCall {
     pub answer: ConfirmAnswer,
@@ -38,38 +38,20 @@ pub fn confirm_call(
             kept,
         },
         Admission::Admitted => {
-            let step = confirm(domain, t, counter);
+            let step = confirm(domain, t, counter, 8 <= out.len());
             let answer = step.answer;
-            match with_room(answer, out.len()) {
-                ConfirmAnswer::Refused(refusal) => ConfirmCall {
-                    answer: ConfirmAnswer::Refused(refusal),
-                    domain,
-                    kept,
-                },
-                ConfirmAnswer::Followed(fup) => {
-                    let ids = settings.ids;
-                    let after = step.domain;
-                    write_frame(Frame::Fup(fup), ids, out, 0);
-                    ConfirmCall {
-                        answer: ConfirmAnswer::Followed(fup),
-                        domain: after,
-                        kept: t,
-                    }
-                }
-            }
+            let after = step.domain;
+            let call = ConfirmCall {
+                answer,
+                domain: after,
+                kept: kept_after(answer.number(), kept, t),
+            };
+            let ConfirmAnswer::Followed(fup) = answer else {
+                return call;
+            };
+            let ids = settings.ids;
+            write_frame(Frame::Fup(fup), ids, out, 0);
+            call
         }
     }
-}
-
-// The answer in view of the buffer's length: 12 comes before 13, and after 11.
-fn with_room(answer: ConfirmAnswer, length: usize) -> ConfirmAnswer
-    ensures { λ r. ⌜ r ≡ withRoom answer length ⌝ }
-{
-    if 8 <= length {
-        return answer;
-    }
-    if answer.number() == 11 {
-        return answer;
-    }
-    ConfirmAnswer::Refused(Refusal::NoRoom)
 }

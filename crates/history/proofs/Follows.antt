@@ -11,7 +11,7 @@ use mathlib.Core.List.{List, [], _∷_, _++_}
 use native.Mathlib.Omega.{arith}
 use borrow.Author.Tests.{ltb-false, le-leb}
 use lib.Dec.{ltb}
-use Rattle.promise.proofs.Laws.{either}
+use Rattle.promise.proofs.Tests.{either, either-told}
 use Rattle.clock.specs.declared.reading.VirtualLocalTime.{VirtualLocalTime}
 use Rattle.clock.specs.Reading.{spanOf}
 use Rattle.frame.specs.declared.values.Fup.{Fup}
@@ -38,7 +38,6 @@ use Rattle.slave_sync.specs.Sync.{takesSync, syncOf}
 use Rattle.slave_fup.specs.Fup.{fupAs, fupOf}
 use Rattle.slave_frame.specs.Step.{kindOf}
 use Rattle.node_call.specs.Calls.{frame, numbered, answerTo}
-use Rattle.node_laws.proofs.Told.{either-told}
 use Rattle.history.specs.History.{
   Link,
   masterSettings,

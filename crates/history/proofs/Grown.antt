@@ -7,7 +7,7 @@ use mathlib.Core.Path.{_≡_, refl, sym, _∙_}
 use mathlib.Core.Logic.{inr}
 use mathlib.Core.List.{List, [], _∷_, _++_, append-assoc}
 use lib.Dec.{eqb}
-use Rattle.promise.proofs.Laws.{either}
+use Rattle.promise.proofs.Tests.{either}
 use Rattle.clock.specs.declared.reading.VirtualLocalTime.{VirtualLocalTime}
 use Rattle.clock.specs.declared.time.GlobalTime.{GlobalTime}
 use Rattle.node.specs.Frame.{addressedBy}

@@ -8,8 +8,7 @@ use mathlib.Core.Bool.{Bool, true, false, cond}
 use mathlib.Core.Logic.{_⊎_, inl, ⊎-elim}
 use mathlib.Core.List.{List, [], _∷_, _++_, append-assoc}
 use native.Mathlib.Omega.{arith}
-use borrow.Author.Tests.{eqb-true, ltb-false, not-false}
-use Rattle.promise.proofs.Laws.{either}
+use Rattle.promise.proofs.Tests.{either}
 use Rattle.clock.specs.declared.reading.VirtualLocalTime.{VirtualLocalTime}
 use Rattle.clock.specs.declared.base.Held.{Held}
 use Rattle.clock.specs.declared.base.Held.the-variants.{Unset, Set}
@@ -26,7 +25,7 @@ use Rattle.domain.specs.declared.Pair.{Pair}
 use Rattle.domain.specs.declared.Pairing.{Pairing}
 use Rattle.domain.specs.declared.Pairing.the-variants.{Waiting, Open}
 use Rattle.slave_pair.specs.declared.joining.Joined.{Joined}
-use Rattle.slave_pair.specs.Join.{isOld, isOther, isAbove, joinedOf}
+use Rattle.slave_pair.proofs.Laws.{Joins, by-joined}
 use Rattle.slave_update.specs.Update.{newBase}
 use Rattle.slave_answer.specs.declared.FrameStep.{FrameStep}
 use Rattle.slave_sync.specs.Sync.{takesSync}
@@ -34,7 +33,6 @@ use Rattle.slave_fup.specs.Fup.{fupAs}
 use Rattle.slave_frame.specs.Step.{kindOf}
 use Rattle.master_follow.specs.Follow.{wholeOf, ovsOf}
 use Rattle.node_call.specs.Calls.{Call, frame, read, set, cycle, confirm}
-use Rattle.node_laws.proofs.Told.{either-told}
 use Rattle.history.specs.History.{
   Link,
   masterSettings,
@@ -219,16 +217,16 @@ module _ (k : Link) (exceed : Exceed k) (h : History) (row : RowOf (masterSettin
     abbrev f : Fup
     f = values (its .pair .counter) (its .y)
 
-    -- joined with the open pair p, which has its counter and is not old
+    -- joined with the open pair p
     joined :
-        (p : Pair) → Paired k h p → isOld (d .settings .«follow_up_time») p t ≡ false →
-        its .pair .counter ≡ p .counter → TimeOfOne k (x ∷ h) (newBase p f)
-    joined p q young same =
+        (p : Pair) → Paired k h p → Joins (d .settings .«follow_up_time») (d .pairing) t f p →
+        TimeOfOne k (x ∷ h) (newBase p f)
+    joined p q told =
         let m = masterSettings k in
         let i = k .domain in
+        let same = told .same in
         let span : spanOf (p .at) t ≤ slaveSettings k .«follow_up_time» =
-        let limit = ap (λ (s : DomainSettings). s .«follow_up_time») held in
-        omega (arith, ltb-false (d .settings .«follow_up_time») (spanOf (p .at) t) young, limit) in
+        omega (arith, told .young, ap (λ (s : DomainSettings). s .«follow_up_time») held) in
         let sy = subst (λ (c : ℕ). SyncSent m i c (its .y)) same (its .pair .sync) in
         let fs = subst (λ (c : ℕ). FupSent m i c (its .y) (copy .of)) same (its .pair .fup) in
         let one : q .of ≡ its .y =
@@ -253,21 +251,11 @@ module _ (k : Link) (exceed : Exceed k) (h : History) (row : RowOf (masterSettin
           copied = subst (λ (z : Sent). In z (sentIn k (q .before))) one (q .copied);
         }
 
-    abbrev KeptBy : Joined → Type 0
-    KeptBy j = Kept k (x ∷ h) (fupAs j d f .domain)
-
-    fup-joined : (p : Pairing) → PairOk k h p → KeptBy (joinedOf (d .settings .«follow_up_time») p t f)
-    fup-joined Waiting q = still
-    fup-joined (Open p) q =
-        either-told KeptBy (isOld (d .settings .«follow_up_time») p t) (λ old. still)
-        (λ young.
-        either-told KeptBy (isOther p f) (λ other. still)
-        (λ same.
-        either KeptBy (isAbove f) still
-        (record { pair = tt; base = joined p q young (eqb-true _ _ (not-false _ same)) })))
-
     fup-kept : Kept k (x ∷ h) (kindOf d t (fup f) .domain)
-    fup-kept = fup-joined (d .pairing) (g .pair)
+    fup-kept =
+        by-joined (λ (j : Joined). Kept k (x ∷ h) (fupAs j d f .domain)) (d .settings .«follow_up_time»)
+        (d .pairing) t f still still still
+        (λ p told. record { pair = tt; base = joined p (subst (PairOk k h) (told .held) (g .pair)) told })
 
 -- ---- along a history
 

@@ -1,25 +1,21 @@
 -- What a call does to a master's record, and what it gives of the domain. No contract cites this file.
---   DueAt, OpenFor   what is told where a record is due, and where it holds a SYNC that may be confirmed
 --   Moves            what a call at t may do to a record and to the list of what was sent in its domain
 --   master-moves     what a call of a good node does to a master's record, and gives in its domain, is such a move
 -- Assumes nothing.
 use Prim.Native.Nat.{ℕ, zero, suc, _+_, _*_, _%_, _≤_, _<_}
 use mathlib.Core.Path.{_≡_, refl, sym, ap, _∙_, subst}
-use mathlib.Core.Bool.{Bool, true, false, _&&_, and-false}
+use mathlib.Core.Bool.{Bool, true, false, and-false}
 use mathlib.Core.List.{List, [], _∷_, _++_, append-assoc}
 use native.Mathlib.Omega.{arith}
 use lib.Dec.{leb, ltb, eqb}
 use lib.ListN.{length, getD, take, drop, set as put}
 use lib.Seq.{set-getD, take-at, drop-at}
-use borrow.Author.Tests.{leb-true, eqb-true, eq-eqb, ne-eqb}
-use Rattle.promise.proofs.Laws.{either}
+use borrow.Author.Tests.{leb-true, eq-eqb, ne-eqb}
+use Rattle.promise.proofs.Tests.{either, either-told}
 use Rattle.clock.specs.declared.reading.VirtualLocalTime.{VirtualLocalTime}
 use Rattle.clock.specs.declared.time.GlobalTime.{GlobalTime}
-use Rattle.clock.specs.declared.base.Held.{Held}
-use Rattle.clock.specs.declared.base.Held.the-variants.{Unset, Set}
-use Rattle.clock.specs.Reading.{spanOf}
+use Rattle.clock.specs.declared.base.TimeBase.{TimeBase}
 use Rattle.clock.specs.Base.{timeAt}
-use Rattle.clock.proofs.Laws.{advance-good}
 use Rattle.frame.specs.declared.data_ids.DataIds.{DataIds}
 use Rattle.frame.specs.declared.values.Protection.{Protection}
 use Rattle.frame.specs.declared.values.Protection.the-variants.{Plain, Secured}
@@ -32,33 +28,30 @@ use Rattle.frame.specs.ByteTwo.{byteTwoOf}
 use Rattle.frame.specs.Ids.{idAt}
 use Rattle.frame_write.specs.Write.{flags, framedOf, bytesOf}
 use Rattle.frame_write.proofs.Laws.{bytes-length}
-use Rattle.refusal.specs.declared.Refusal.the-variants.{NoOpenSync, Ovs}
 use Rattle.settings.specs.declared.domain_settings.Role.{Role}
 use Rattle.settings.specs.declared.domain_settings.Role.the-variants.{Master}
 use Rattle.admission.specs.declared.Needed.the-variants.{Master as master}
 use Rattle.admission.specs.declared.Admission.{Admission}
 use Rattle.admission.specs.Reading.{isGoodReading}
+use Rattle.admission.proofs.Laws.{good-reading, by-admission, master-admitted}
 use Rattle.admission.specs.declared.frames.FrameAdmission.{FrameAdmission}
 use Rattle.frame.specs.Values.{domainIn}
 use Rattle.admission.specs.FrameAdmission.{readFor}
 use Rattle.domain.specs.declared.Domain.{Domain}
-use Rattle.domain.specs.declared.Sending.{Sending}
-use Rattle.domain.specs.declared.Sending.the-variants.{Never, Open, Confirmed}
+use Rattle.domain.specs.declared.Sending.the-variants.{Open}
 use Rattle.master_rules.specs.declared.due.Due.{Due}
-use Rattle.master_rules.specs.declared.due.Due.the-variants.{At, No}
-use Rattle.master_rules.specs.Due.{isMaster, hasWaited, dueWith, dueOf}
-use Rattle.master_rules.proofs.Laws.{due-fits}
+use Rattle.master_rules.proofs.Laws.{DueAt, by-due}
 use Rattle.master_follow.specs.declared.Follow.{Follow}
-use Rattle.master_follow.specs.declared.Follow.the-variants.{With, Refused as refused}
-use Rattle.master_follow.specs.Follow.{isOpenFor, wholeOf, ovsOf, followOf}
+use Rattle.master_follow.specs.declared.Follow.the-variants.{With}
+use Rattle.master_follow.specs.Follow.{wholeOf, ovsOf}
+use Rattle.master_follow.proofs.Laws.{OpenFor, by-follow}
 use Rattle.master_set.specs.declared.SetStep.{SetStep}
 use Rattle.master_send.specs.Send.{sentOf, sendAs}
-use Rattle.master_confirm.specs.declared.ConfirmAnswer.{ConfirmAnswer}
 use Rattle.master_confirm.specs.Confirm.{confirmNumber, followedOf, confirmAs}
 use Rattle.call_frame.specs.FrameCall.{frameCallAs, frameCallOf}
 use Rattle.call_set.specs.SetCall.{setStepped, setCallAs, setCallOf}
 use Rattle.call_confirm.specs.declared.ConfirmCall.{ConfirmCall}
-use Rattle.call_confirm.specs.ConfirmCall.{withRoom, confirmAnswered, confirmCallAs, confirmCallOf, confirmBytes}
+use Rattle.call_confirm.specs.ConfirmCall.{confirmStepped, confirmCallAs, confirmCallOf, confirmBytes}
 use Rattle.domain.specs.Records.{recordAt}
 use Rattle.round.specs.Round.{framesBy, sentAfter, goes, pasted}
 use Rattle.round.specs.Turn.{turnOf, nextAfter}
@@ -70,70 +63,15 @@ use Rattle.node.specs.Cycle.{isRoomFor, goneFrom, nodeCycleOf, cycleBytes}
 use Rattle.node_call.specs.Calls.{Call, frame, read, set, cycle, confirm, nodeAfter, follows as answers, answerTo}
 use Rattle.node_laws.specs.Good.{SentWithin, RoleGood, Good}
 use Rattle.node_laws.specs.Back.{Each, joined, IsEight}
-use Rattle.node_laws.proofs.Told.{either-told, both}
-use Rattle.node_laws.proofs.Admitted.{good-reading, by-admission, master-admitted}
 use Rattle.node_laws.proofs.Rounds.{AllGood, all-later, stored-good, turn-good, count-bound}
 use Rattle.node_laws.proofs.Cycles.{round-each, pasted-whole}
-use Rattle.history.specs.History.{Sent, readingOf, eights, givenBy, timeIn, noted}
+use Rattle.history.specs.History.{Sent, readingOf, eights, givenBy, noted}
 use Rattle.history.proofs.Placed.{placed}
 use Rattle.history.proofs.Row.{syncValues, fupValues}
 
--- ---- what is told where a domain is due, and where a confirmation is answered
-
-pub record DueAt (period : ℕ) (base : Held) (sending : Sending) (t : VirtualLocalTime) : Type 0 where
-  pub waited : hasWaited period sending t ≡ true
-  pub seconds : timeIn base t .0 ≤ 4294967295
-  pub nanoseconds : timeIn base t .1 ≤ 999999999
-
-pub record OpenFor
-    (most : ℕ) (sending : Sending) (t : VirtualLocalTime) (counter : ℕ) (g : GlobalTime)
-    (at : VirtualLocalTime) : Type 0 where
-  pub held : sending ≡ Open counter (g .0) (g .1) at
-  pub soon : spanOf at t ≤ most
-  pub ovs : ovsOf g at t ≤ 3
-
-by-due :
-    (P : Due → Type 0) (role : Role) (p : ℕ) (base : Held) (s : Sending) (t : VirtualLocalTime) → P No →
-    (DueAt p base s t → P (At (timeIn base t .0) (timeIn base t .1))) → P (dueOf role p base s t)
-by-due P role p Unset s t not due = not
-by-due P role p (Set b) s t not due =
-    either-told P (dueWith role p (timeAt b t) s t)
-    (λ e.
-    due
-    (record {
-      waited = both (leb (timeAt b t .0) 4294967295 && isMaster role) (hasWaited p s t) e .1;
-      seconds = due-fits role p (timeAt b t) s t e;
-      nanoseconds = advance-good (b .time) (spanOf (b .at) t);
-    }))
-    (λ e. not)
-
-by-follow :
-    (P : Follow → Type 0) (c : ℕ) (s : Sending) (t : VirtualLocalTime) (counter : ℕ) → P (refused NoOpenSync) →
-    P (refused Ovs) →
-    ((g : GlobalTime) (at : VirtualLocalTime) → OpenFor c s t counter g at →
-    P (With (ovsOf g at t) (wholeOf g at t .1) at)) →
-    P (followOf c s t counter)
-by-follow P c Never t counter no-sync no-ovs with = no-sync
-by-follow P c (Open sent seconds nanoseconds at) t counter no-sync no-ovs with =
-    let g : GlobalTime = record { 0 = seconds; 1 = nanoseconds } in
-    either-told P (isOpenFor c sent at t counter)
-    (λ e.
-    let tests = both (eqb sent counter) (leb (spanOf at t) c) e in
-    either-told P (leb (ovsOf g at t) 3)
-    (λ low.
-    with g at
-    (record {
-      held = ap (λ (n : ℕ). Open n seconds nanoseconds at) (eqb-true sent counter (tests .0));
-      soon = leb-true _ _ (tests .1);
-      ovs = leb-true _ _ low;
-    }))
-    (λ high. no-ovs))
-    (λ e. no-sync)
-by-follow P c (Confirmed at) t counter no-sync no-ovs with = no-sync
-
--- ---- the frames of a record at t: its SYNC, and the FUP of what it sent at `at` with time `from`
-abbrev pub syncOf : VirtualLocalTime → Domain → Frame
-syncOf t d = sync (syncValues (d .settings) (d .number) (d .«next_counter» % 16) (timeIn (d .base) t .0))
+-- ---- the frames of a record at t: its SYNC of base b, and the FUP of what it sent at `at` with time `from`
+abbrev pub syncOf : VirtualLocalTime → Domain → TimeBase → Frame
+syncOf t d b = sync (syncValues (d .settings) (d .number) (d .«next_counter» % 16) (timeAt b t .0))
 
 abbrev pub fupOf : VirtualLocalTime → Domain → (counter : ℕ) (from : GlobalTime) (at : VirtualLocalTime) → Frame
 fupOf t d counter from at =
@@ -150,13 +88,14 @@ module _ (t : VirtualLocalTime) (g : GlobalTime) where
         (d e : Domain) (l : List Sent) → e .settings ≡ d .settings → e .sending ≡ d .sending →
         e .«next_counter» ≡ d .«next_counter» → Moves d l e l
     sends :
-        (d e : Domain) (l m : List Sent) → DueAt (d .settings .period) (d .base) (d .sending) t →
-        Moves (sentOf d (timeIn (d .base) t .0) (timeIn (d .base) t .1) t .domain)
-        (sentAs (d .settings .ids) (syncOf t d) ∷ l) e m →
+        (d e : Domain) (l m : List Sent) (b : TimeBase) →
+        DueAt (d .settings .role) (d .settings .period) (d .base) (d .sending) t b →
+        Moves (sentOf d (timeAt b t .0) (timeAt b t .1) t .domain) (sentAs (d .settings .ids) (syncOf t d b) ∷ l) e m →
         Moves d l e m
     follows :
         (d : Domain) (l : List Sent) (counter : ℕ) (from : GlobalTime) (at : VirtualLocalTime) →
-        OpenFor (d .settings .«confirmation_time») (d .sending) t counter from at → at .0 ≤ t .0 →
+        OpenFor (d .settings .«confirmation_time») (d .sending) t counter from at → ovsOf from at t ≤ 3 →
+        at .0 ≤ t .0 →
         Moves d l (followedOf d counter (ovsOf from at t) (wholeOf from at t .1) at .domain)
         (sentAs (d .settings .ids) (fupOf t d counter from at) ∷ l)
 
@@ -224,9 +163,9 @@ module _ (i : ℕ) (below : i < 16) (t : VirtualLocalTime) (g : GlobalTime) wher
       Moves t g d l e (noted i t g (framesBy (sendAs due d t .answer) (d .settings .ids) ++ rest) l))
       (d .settings .role) (d .settings .period) (d .base) (d .sending) t
       (λ next. next l)
-      (λ told next.
-      rw (one-of (d .settings .ids) (syncOf t d) rest l n)
-      (sends d e l _ told (next (sentAs t g (d .settings .ids) (syncOf t d) ∷ l))))
+      (λ b told next.
+      rw (one-of (d .settings .ids) (syncOf t d b) rest l n)
+      (sends d e l _ b told (next (sentAs t g (d .settings .ids) (syncOf t d b) ∷ l))))
       next
 
   turn-there :
@@ -238,7 +177,7 @@ module _ (i : ℕ) (below : i < 16) (t : VirtualLocalTime) (g : GlobalTime) wher
       (λ (due : Due).
       noted i t g (framesBy (sendAs due d t .answer) (d .settings .ids) ++ rest) l ≡ noted i t g rest l)
       (d .settings .role) (d .settings .period) (d .base) (d .sending) t refl
-      (λ told. none-of (d .settings .ids) (syncOf t d) rest l h n)
+      (λ b told. none-of (d .settings .ids) (syncOf t d b) rest l h n)
 
   goes-moves :
       (k at sent most : ℕ) (ds : List Domain) (next : ℕ) (l : List Sent) → at < 16 → AllGood t ds →
@@ -368,46 +307,39 @@ module _ (n : Node) (good : Good n) (i : ℕ) (below : i < 16) (role : recordAt 
         let m = subst (λ (r : Role). RoleGood r (n .kept) c) is (good .records (asked % 16) (omega arith) .role) in
         subst (SentWithin (n .kept) (c .base) (c .«next_counter»)) e (m .sent) .5
 
-    abbrev Answered : Domain → ConfirmAnswer → Type 0
-    Answered after a = ConfirmMoves (confirmAnswered a after c (n .kept) t)
+    abbrev Stepped : Follow → Type 0
+    Stepped f = ConfirmMoves (confirmStepped (confirmAs f c counter) (n .kept) t)
 
     followed :
         (from : GlobalTime) (at : VirtualLocalTime) →
-        OpenFor (c .settings .«confirmation_time») (c .sending) t counter from at → at .0 ≤ t .0 →
-        let step = followedOf c counter (ovsOf from at t) (wholeOf from at t .1) at in
-        Answered (step .domain) (withRoom (step .answer) (length out))
-    followed from at told late =
-        let step = followedOf c counter (ovsOf from at t) (wholeOf from at t .1) at in
+        OpenFor (c .settings .«confirmation_time») (c .sending) t counter from at → ovsOf from at t ≤ 3 →
+        at .0 ≤ t .0 → Stepped (With (ovsOf from at t) (wholeOf from at t .1) at)
+    followed from at told few late =
+        let after = followedOf c counter (ovsOf from at t) (wholeOf from at t .1) at .domain in
         let ids = c .settings .ids in
         let f = fupOf t c counter from at in
         let number = good .records (asked % 16) (omega arith) .number in
         let m = noted i t g (bytesOf ids f ∷ []) l in
-        either (Answered (step .domain)) (leb 8 (length out))
-        (rw (take-at (bytesOf ids f) (drop 8 out) 8 (bytes-length ids f))
-        (placed (λ (x : Domain). Moves t g d l x m) (n .domains) (asked % 16) i (step .domain) there
+        rw (take-at (bytesOf ids f) (drop 8 out) 8 (bytes-length ids f))
+        (placed (λ (x : Domain). Moves t g d l x m) (n .domains) (asked % 16) i after there
         (λ same.
         rw (one-of i below t g ids f [] l (number ∙ same))
-        (subst (λ (x : Domain). Moves t g x l (step .domain) (sentAs t g ids f ∷ l)) (ap (recordAt (n .domains)) same)
-        (follows c l counter from at told late)))
+        (subst (λ (x : Domain). Moves t g x l after (sentAs t g ids f ∷ l)) (ap (recordAt (n .domains)) same)
+        (follows c l counter from at told few late)))
         (λ apart.
         rw (none-of i below t g ids f [] l (omega (arith, number)) (λ q. apart (sym number ∙ q)))
-        (as-it-was t))))
-        kept-here
+        (as-it-was t)))
 
     confirm-moves : ConfirmMoves (confirmCallOf c (n .kept) asked t counter (length out))
     confirm-moves =
         by-admission (λ (a : Admission). ConfirmMoves (confirmCallAs a c (n .kept) t counter (length out))) (n .kept) t
         (c .number) (c .settings .role) asked master
         (λ tested.
-        by-follow
-        (λ (f : Follow).
-        Answered (confirmAs f c counter .domain) (withRoom (confirmAs f c counter .answer) (length out)))
-        (c .settings .«confirmation_time») (c .sending) t counter
-        (either (Answered c) (leb 8 (length out)) kept-here kept-here)
-        (either (Answered c) (leb 8 (length out)) kept-here kept-here)
-        (λ from at told.
+        by-follow Stepped (c .settings .«confirmation_time») (c .sending) t counter (leb 8 (length out)) kept-here
+        kept-here (λ from at told many. kept-here)
+        (λ from at told few has-room.
         let before = sent-before from at (master-admitted (c .settings .role) (tested .in-role)) (told .held) in
-        followed from at told (omega (arith, tested .not-before))))
+        followed from at told few (omega (arith, tested .not-before))))
         kept-here kept-here
 
   -- ---- any call

@@ -7,6 +7,7 @@ use mathlib.Core.Bool.{Bool, true, false, cond}
 use mathlib.Core.List.{List, [], _∷_}
 use native.Mathlib.Omega.{arith}
 use lib.ListN.{getD}
+use Rattle.promise.proofs.Tests.{both}
 use Rattle.refusal.specs.declared.Refusal.the-variants.{Settings}
 use Rattle.settings.specs.declared.domain_settings.DomainSettings.{DomainSettings}
 use Rattle.settings.specs.declared.domain_settings.Role.{Role}
@@ -16,7 +17,6 @@ use Rattle.settings.proofs.ranges.Laws.{SlaveRange, MasterRange, slave-range, m
 use Rattle.settings.specs.declared.node_settings.NodeSettings.{NodeSettings}
 use Rattle.settings.specs.declared.node_settings.Verdict.the-variants.{Good, Refused}
 use Rattle.settings.specs.Node.{allGood, judgedOf}
-use Rattle.node_laws.proofs.Told.{both}
 use Rattle.history.specs.History.{Link, masterSettings, slaveSettings}
 use Rattle.history.specs.Demand.{Linked}
 

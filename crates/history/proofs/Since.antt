@@ -12,10 +12,10 @@ use mathlib.Core.List.{List, [], _∷_, _++_, append-assoc}
 use native.Mathlib.Omega.{arith}
 use borrow.Author.Tests.{leb-true, leb-false, lt-leb}
 use lib.Dec.{leb}
+use Rattle.promise.proofs.Tests.{either-told}
 use Rattle.clock.specs.declared.reading.VirtualLocalTime.{VirtualLocalTime}
 use Rattle.settings.specs.declared.domain_settings.DomainSettings.{DomainSettings}
 use Rattle.node_call.specs.Calls.{frame, read, set, cycle, confirm}
-use Rattle.node_laws.proofs.Told.{either-told}
 use Rattle.history.specs.History.{
   Link,
   masterSettings,

@@ -13,11 +13,11 @@ use mathlib.Core.Bool.{Bool, true, false, cond, _&&_}
 use mathlib.Core.List.{List, [], _∷_}
 use native.Mathlib.Nat.{mod-eq-of-lt}
 use native.Mathlib.Omega.{arith}
-use lib.Dec.{eqb}
+use lib.Dec.{leb, eqb}
 use lib.ListN.{length, getD}
 use lib.Seq.{getD-set-same}
 use borrow.Author.Tests.{eqb-true, le-leb}
-use Rattle.promise.proofs.Laws.{either}
+use Rattle.promise.proofs.Tests.{either, either-told, both}
 use Rattle.clock.specs.declared.reading.VirtualLocalTime.{VirtualLocalTime}
 use Rattle.clock.specs.Reading.{isReading}
 use Rattle.frame.specs.declared.types.FrameType.{FrameType}
@@ -41,6 +41,7 @@ use Rattle.admission.specs.declared.Admission.{Admission}
 use Rattle.admission.specs.declared.Admission.the-variants.{Admitted, Refused}
 use Rattle.admission.specs.Reading.{isGoodReading}
 use Rattle.admission.specs.Admission.{isIn, isFor, admittedOf}
+use Rattle.admission.proofs.Laws.{good-reading, by-admission}
 use Rattle.admission.specs.declared.frames.FrameAdmission.{FrameAdmission}
 use Rattle.admission.specs.declared.frames.FrameAdmission.the-variants.{
   Admitted as frame-admitted,
@@ -58,13 +59,11 @@ use Rattle.slave_sync.specs.Sync.{takesSync}
 use Rattle.slave_fup.specs.Fup.{fupAs}
 use Rattle.slave_frame.specs.Step.{kindOf, frameOf}
 use Rattle.master_set.specs.Set.{setNumber, setOf}
-use Rattle.master_confirm.specs.declared.ConfirmAnswer.{ConfirmAnswer}
-use Rattle.master_confirm.specs.declared.ConfirmAnswer.the-variants.{Followed, Refused as not-confirmed}
-use Rattle.master_confirm.specs.Confirm.{confirmOf}
+use Rattle.master_confirm.specs.Confirm.{confirmNumber, confirmOf}
 use Rattle.call_frame.specs.declared.FrameCall.{FrameCall}
 use Rattle.call_frame.specs.FrameCall.{frameStepped, frameCallAs, frameCallOf}
 use Rattle.call_set.specs.SetCall.{setCallAs, setCallOf}
-use Rattle.call_confirm.specs.ConfirmCall.{withRoom, confirmAnswered, confirmCallAs, confirmCallOf}
+use Rattle.call_confirm.specs.ConfirmCall.{confirmCallAs, confirmCallOf}
 use Rattle.domain.specs.Records.{recordAt}
 use Rattle.node.specs.declared.Node.{Node}
 use Rattle.node.specs.New.{newAs}
@@ -73,8 +72,6 @@ use Rattle.node.specs.Cycle.{isRoomFor}
 use Rattle.node.specs.Frame.{addressedBy}
 use Rattle.node_call.specs.Calls.{Call, frame, read, set, cycle, confirm, nodeAfter, numbered, answerTo}
 use Rattle.node_laws.specs.Good.{Good}
-use Rattle.node_laws.proofs.Told.{either-told, both}
-use Rattle.node_laws.proofs.Admitted.{by-admission, good-reading}
 use Rattle.node_laws.proofs.Fresh.{new-good}
 use Rattle.node_laws.proofs.Reachable.{call-good}
 use Rattle.node_laws.proofs.Laws.{other-domains}
@@ -380,15 +377,11 @@ module _ (P : VirtualLocalTime → Type 0) (kept t : VirtualLocalTime) (old : P 
   set-keeps (Refused refusal) d s ns = old
   set-keeps Admitted d s ns = either P (eqb (setNumber (setOf d t s ns .answer)) 0) new old
 
-  answer-keeps : (b : ConfirmAnswer) (after d : Domain) → P (confirmAnswered b after d kept t .kept)
-  answer-keeps (Followed f) after d = new
-  answer-keeps (not-confirmed refusal) after d = old
-
   confirm-keeps :
       (f : Admission) (d : Domain) (counter length : ℕ) → P (confirmCallAs f d kept t counter length .kept)
   confirm-keeps (Refused refusal) d counter length = old
   confirm-keeps Admitted d counter length =
-      answer-keeps (withRoom (confirmOf d t counter .answer) length) (confirmOf d t counter .domain) d
+      either P (eqb (confirmNumber (confirmOf d t counter (leb 8 length) .answer)) 0) new old
 
 call-keeps :
     (P : VirtualLocalTime → Type 0) (n : Node) (c : Call) → P (n .kept) → P (readingOf c) → P (nodeAfter n c .kept)

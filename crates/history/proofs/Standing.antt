@@ -10,10 +10,13 @@ use mathlib.Core.List.{List, [], _∷_}
 use native.Mathlib.Omega.{arith}
 use lib.Dec.{eqb}
 use borrow.Author.Tests.{leb-true}
-use Rattle.promise.proofs.Laws.{either}
+use Rattle.promise.proofs.Tests.{either}
 use Rattle.clock.specs.declared.reading.VirtualLocalTime.{VirtualLocalTime}
 use Rattle.clock.specs.declared.time.GlobalTime.{GlobalTime}
+use Rattle.clock.specs.declared.base.TimeBase.{TimeBase}
+use Rattle.clock.specs.declared.base.Held.{Held}
 use Rattle.clock.specs.Reading.{spanOf}
+use Rattle.clock.specs.Base.{timeAt}
 use Rattle.frame.specs.declared.values.Frame.the-variants.{Sync as sync, Fup as fup}
 use Rattle.frame_write.specs.Write.{bytesOf}
 use Rattle.settings.specs.declared.domain_settings.DomainSettings.{DomainSettings}
@@ -25,9 +28,11 @@ use Rattle.domain.specs.declared.Domain.{Domain}
 use Rattle.domain.specs.declared.Sending.the-variants.{Open}
 use Rattle.domain.specs.Fresh.{freshOf}
 use Rattle.master_rules.specs.Due.{hasWaited}
+use Rattle.master_rules.proofs.Laws.{DueAt}
 use Rattle.master_send.specs.Send.{sentOf}
 use Rattle.master_confirm.specs.Confirm.{followedOf}
 use Rattle.master_follow.specs.Follow.{wholeOf, ovsOf}
+use Rattle.master_follow.proofs.Laws.{OpenFor}
 use Rattle.node.specs.Frame.{addressedBy}
 use Rattle.node_call.specs.Calls.{answerTo}
 use Rattle.node_laws.specs.Good.{Good as Known}
@@ -68,8 +73,6 @@ use Rattle.history.proofs.Row.{
   then-fup,
 }
 use Rattle.history.proofs.MasterView.{
-  DueAt,
-  OpenFor,
   syncOf,
   fupOf,
   sentAs,
@@ -109,10 +112,11 @@ record Stands (m : DomainSettings) (i : ℕ) (d : Domain) (l : List Sent) : Type
 module _ (m : DomainSettings) (i : ℕ) (t : VirtualLocalTime) (g : GlobalTime) where
   module _ (d : Domain) (l : List Sent) (number : d .number ≡ i) (s : Stands m i d l) where
     sync-stands :
-        1 ≤ m .period → timeIn (d .base) t ≡ g → DueAt (d .settings .period) (d .base) (d .sending) t →
-        Stands m i (sentOf d (timeIn (d .base) t .0) (timeIn (d .base) t .1) t .domain)
-        (sentAs t g (d .settings .ids) (syncOf t d) ∷ l)
-    sync-stands p base due =
+        1 ≤ m .period → timeIn (d .base) t ≡ g → (b : TimeBase) →
+        DueAt (d .settings .role) (d .settings .period) (d .base) (d .sending) t b →
+        Stands m i (sentOf d (timeAt b t .0) (timeAt b t .1) t .domain)
+        (sentAs t g (d .settings .ids) (syncOf t d b) ∷ l)
+    sync-stands p timed b due =
         record {
           settings = s .settings;
           latest = newest c y;
@@ -125,7 +129,10 @@ module _ (m : DomainSettings) (i : ℕ) (t : VirtualLocalTime) (g : GlobalTime) 
         c = d .«next_counter» % 16
 
         y : Sent
-        y = sentAs t g (d .settings .ids) (syncOf t d)
+        y = sentAs t g (d .settings .ids) (syncOf t d b)
+
+        base : timeAt b t ≡ g
+        base = ap (λ (h : Held). timeIn h t) (sym (due .held)) ∙ timed
 
         waited : hasWaited (m .period) (d .sending) t ≡ true
         waited = subst (λ (x : DomainSettings). hasWaited (x .period) (d .sending) t ≡ true) (s .settings) (due .waited)
@@ -142,12 +149,12 @@ module _ (m : DomainSettings) (i : ℕ) (t : VirtualLocalTime) (g : GlobalTime) 
 
         opened :
             (n : ℕ) (from : GlobalTime) (at : VirtualLocalTime) →
-            Open c (timeIn (d .base) t .0) (timeIn (d .base) t .1) t ≡ Open n (from .0) (from .1) at →
+            Open c (timeAt b t .0) (timeAt b t .1) t ≡ Open n (from .0) (from .1) at →
             Opened m i (newest c y) n from at (y ∷ l)
         opened n from at e =
             let counter : c ≡ n = cc in
-            let seconds : timeIn (d .base) t .0 ≡ from .0 = cc in
-            let nanoseconds : timeIn (d .base) t .1 ≡ from .1 = cc in
+            let seconds : timeAt b t .0 ≡ from .0 = cc in
+            let nanoseconds : timeAt b t .1 ≡ from .1 = cc in
             record {
               y = y;
               older = l;
@@ -160,10 +167,10 @@ module _ (m : DomainSettings) (i : ℕ) (t : VirtualLocalTime) (g : GlobalTime) 
 
     fup-stands :
         (c : ℕ) (from : GlobalTime) (at : VirtualLocalTime) →
-        OpenFor (d .settings .«confirmation_time») (d .sending) t c from at → at .0 ≤ t .0 →
+        OpenFor (d .settings .«confirmation_time») (d .sending) t c from at → ovsOf from at t ≤ 3 → at .0 ≤ t .0 →
         Stands m i (followedOf d c (ovsOf from at t) (wholeOf from at t .1) at .domain)
         (sentAs t g (d .settings .ids) (fupOf t d c from at) ∷ l)
-    fup-stands c from at told late =
+    fup-stands c from at told few late =
         record {
           settings = s .settings;
           latest = newest c y;
@@ -199,7 +206,7 @@ module _ (m : DomainSettings) (i : ℕ) (t : VirtualLocalTime) (g : GlobalTime) 
                   (wholeOf (time j) (read j) t .1)));
               later = omega arith;
               soon = omega (arith, told .soon);
-              ovs = subst (λ (x : ℕ). x ≤ 3) (λ j. ovsOf (time j) (read j) t) (told .ovs);
+              ovs = subst (λ (x : ℕ). x ≤ 3) (λ j. ovsOf (time j) (read j) t) few;
             }
 
   still-stands :
@@ -213,9 +220,9 @@ module _ (m : DomainSettings) (i : ℕ) (t : VirtualLocalTime) (g : GlobalTime) 
         next = rw (sending, next) (s .next);
         opened = rw sending (s .opened);
       }
-  still-stands d l e after (sends _ _ _ _ due rest) p n b s =
-      still-stands _ _ e after rest p n b (sync-stands d l n s p b due)
-  still-stands d l e after (follows _ _ c from at told late) p n b s = fup-stands d l n s c from at told late
+  still-stands d l e after (sends _ _ _ _ held due rest) p n b s =
+      still-stands _ _ e after rest p n b (sync-stands d l n s p b held due)
+  still-stands d l e after (follows _ _ c from at told few late) p n b s = fup-stands d l n s c from at told few late
 
 -- ---- from the fresh node on
 

@@ -5,30 +5,26 @@ use Prim.Native.Nat.{ℕ, _+_, _-_, _≤_}
 use mathlib.Core.Path.{_≡_, refl, ap, _∙_}
 use mathlib.Core.List.{List, [], _∷_, _++_}
 use native.Mathlib.Omega.{arith}
-use borrow.Author.Tests.{le-ltb, le-leb, eq-eqb}
 use Rattle.clock.specs.declared.reading.VirtualLocalTime.{VirtualLocalTime}
 use Rattle.clock.specs.declared.time.GlobalTime.{GlobalTime}
-use Rattle.clock.specs.declared.base.TimeBase.{TimeBase}
-use Rattle.clock.specs.declared.base.Held.{Held}
-use Rattle.clock.specs.declared.base.Held.the-variants.{Unset, Set}
+use Rattle.clock.specs.declared.base.Held.the-variants.{Set}
 use Rattle.clock.specs.Reading.{spanOf}
-use Rattle.clock.specs.Time.{mostNanoseconds}
 use Rattle.clock.specs.Base.{baseOf}
 use Rattle.frame.specs.declared.values.Fup.{Fup}
 use Rattle.frame.specs.declared.values.Frame.the-variants.{Fup as fup}
 use Rattle.settings.specs.declared.domain_settings.DomainSettings.{DomainSettings}
 use Rattle.domain.specs.declared.Domain.{Domain}
 use Rattle.domain.specs.declared.Pair.{Pair as OpenPair}
-use Rattle.domain.specs.declared.Pairing.{Pairing}
 use Rattle.domain.specs.declared.Pairing.the-variants.{Open}
 use Rattle.slave_pair.specs.declared.joining.Joined.{Joined}
 use Rattle.slave_pair.specs.declared.joining.Joined.the-variants.{With}
 use Rattle.slave_pair.specs.Pair.{pairOf}
-use Rattle.slave_pair.specs.Join.{joinedOf}
+use Rattle.slave_pair.proofs.Laws.{Joins, joins}
 use Rattle.slave_answer.specs.Answer.{frameNumber}
-use Rattle.slave_update.specs.Update.{newBase, updateOf}
+use Rattle.slave_update.specs.Update.{newBase}
+use Rattle.slave_update.proofs.Laws.{update-taken}
 use Rattle.slave_answer.specs.declared.FrameStep.{FrameStep}
-use Rattle.slave_fup.specs.Fup.{takenBy, fupAs, fupOf}
+use Rattle.slave_fup.specs.Fup.{fupAs, fupOf}
 use Rattle.master_follow.specs.Follow.{wholeOf, ovsOf}
 use Rattle.node_call.specs.Calls.{numbered}
 use Rattle.history.specs.History.{Link, masterSettings, slaveSettings, onSlave, History, slaveRecord, Sent}
@@ -41,30 +37,10 @@ use Rattle.history.proofs.Standing.{standing}
 use Rattle.history.proofs.SlaveView.{slave-settings}
 
 -- ---- a FUP that is taken
-joined :
-    (limit : ℕ) (p : OpenPair) (t : VirtualLocalTime) (f : Fup) → spanOf (p .at) t ≤ limit → f .counter ≡ p .counter →
-    f .nanoseconds ≤ mostNanoseconds → joinedOf limit (Open p) t f ≡ With p
-joined limit p t f h e n =
-    rw (le-ltb limit (spanOf (p .at) t) h, eq-eqb (f .counter) (p .counter) e, le-leb (f .nanoseconds) mostNanoseconds n) refl
-
-abbrev takenAs : Domain → OpenPair → Fup → FrameStep
-takenAs d p f =
-    takenBy
-    (updateOf (d .settings .«future_threshold») (d .settings .«past_threshold») (d .base) (newBase p f))
-    d p f
-
 taken-as :
-    (d : Domain) (p : OpenPair) (t : VirtualLocalTime) (f : Fup) → d .pairing ≡ Open p →
-    spanOf (p .at) t ≤ d .settings .«follow_up_time» → f .counter ≡ p .counter → f .nanoseconds ≤ mostNanoseconds →
-    fupOf d t f ≡ takenAs d p f
-taken-as d p t f o h e n =
-    ap (λ (j : Joined). fupAs j d f)
-    (ap (λ (q : Pairing). joinedOf (d .settings .«follow_up_time») q t f) o
-    ∙ joined (d .settings .«follow_up_time») p t f h e n)
-
-taken-number : (future past : ℕ) (old : Held) (new : TimeBase) → frameNumber (updateOf future past old new .answer) ≡ 0
-taken-number future past Unset new = refl
-taken-number future past (Set old) new = refl
+    (d : Domain) (p : OpenPair) (t : VirtualLocalTime) (f : Fup) →
+    Joins (d .settings .«follow_up_time») (d .pairing) t f p → fupOf d t f ≡ fupAs (With p) d f
+taken-as d p t f j = ap (λ (j : Joined). fupAs j d f) (joins (d .settings .«follow_up_time») (d .pairing) t f p j)
 
 module _ (k : Link) (l : Linked k) (moment : ℕ) (h : History) where
   abbrev m : DomainSettings
@@ -102,7 +78,10 @@ module _ (k : Link) (l : Linked k) (moment : ℕ) (h : History) where
       (f .of .bytes) (fup v) (here .fine) (here .heard) reads in
       let limit =
       ap (λ (s : DomainSettings). s .«follow_up_time») (slave-settings k l (here .before) (here .fine .calls .0)) in
-      let taken = taken-as d open-pair (f .at) v is-open (omega (arith, limit, in-time)) refl (omega arith) in
+      let taken =
+      taken-as d open-pair (f .at) v
+      (record { held = is-open; young = omega (arith, limit, in-time); same = refl; in-range = omega arith })
+      in
       record {
         after = here .after;
         before = here .before;
@@ -111,7 +90,7 @@ module _ (k : Link) (l : Linked k) (moment : ℕ) (h : History) where
         number =
             step .1
             ∙ ap (λ (s : FrameStep). numbered (frameNumber (s .answer))) taken
-            ∙ ap numbered (taken-number _ _ (d .base) (newBase open-pair v));
+            ∙ ap numbered (update-taken _ _ (d .base) (newBase open-pair v));
         base =
             ap (λ (d : Domain). d .base) (step .0)
             ∙ ap (λ (s : FrameStep). s .domain .base) taken

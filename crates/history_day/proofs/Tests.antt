@@ -15,13 +15,13 @@ use mathlib.Core.List.{List, [], _∷_, _++_}
 use native.Mathlib.Omega.{arith}
 use lib.Dec.{eqb, leb}
 use borrow.Author.Tests.{eqb-true, leb-true, eq-eqb}
+use Rattle.promise.proofs.Tests.{both}
 use Rattle.clock.specs.declared.base.TimeBase.{TimeBase}
 use Rattle.clock.specs.declared.base.Held.{Held}
 use Rattle.clock.specs.declared.base.Held.the-variants.{Unset, Set}
 use Rattle.clock.specs.declared.time.GlobalTime.{GlobalTime}
 use Rattle.clock.specs.Reading.{isReading, spanOf}
 use Rattle.clock.specs.Time.{advanced}
-use Rattle.node_laws.proofs.Told.{both}
 use Rattle.node_laws.proofs.Witness.{isCall, is-call}
 use Rattle.settings.specs.declared.domain_settings.Role.the-variants.{Slave, Master}
 use Rattle.settings.specs.declared.node_settings.Verdict.the-variants.{Good}

@@ -1,22 +1,24 @@
 -- Laws of a master's confirmation. No contract cites this file.
 --   refusal-keeps-confirm   a refused confirmation leaves the record as it was
 --   confirm-closes          a confirmation that is not refused leaves no SYNC open
+--   followed-has-room       and there was room for its FUP
 -- Assumes nothing.
 use Prim.Native.Nat.{ℕ}
 use mathlib.Core.Path.{_≡_, refl}
+use mathlib.Core.Bool.{Bool, true}
 use native.Mathlib.Omega.{arith}
-use lib.Dec.{leb}
-use Rattle.promise.proofs.Laws.{either}
 use Rattle.clock.specs.declared.reading.VirtualLocalTime.{VirtualLocalTime}
+use Rattle.frame.specs.declared.values.Fup.{Fup}
 use Rattle.refusal.specs.declared.Refusal.{Refusal}
 use Rattle.domain.specs.declared.Domain.{Domain}
 use Rattle.domain.specs.declared.Sending.{Sending}
 use Rattle.domain.specs.declared.Sending.the-variants.{Never, Open, Confirmed}
 use Rattle.master_follow.specs.declared.Follow.{Follow}
 use Rattle.master_follow.specs.declared.Follow.the-variants.{With, Refused as refused}
-use Rattle.master_confirm.specs.declared.ConfirmAnswer.the-variants.{Refused}
+use Rattle.master_follow.specs.Follow.{followOf}
+use Rattle.master_follow.proofs.Laws.{by-follow}
+use Rattle.master_confirm.specs.declared.ConfirmAnswer.the-variants.{Followed, Refused}
 use Rattle.master_confirm.specs.declared.ConfirmStep.{ConfirmStep}
-use Rattle.master_follow.specs.Follow.{isOpenFor, ovsOf, followOf}
 use Rattle.master_confirm.specs.Confirm.{confirmNumber, confirmAs, confirmOf}
 
 -- ---- a refusal keeps the record
@@ -28,33 +30,29 @@ as-keeps : (f : Follow) (d : Domain) (counter : ℕ) → Keeps d (confirmAs f d 
 as-keeps (With ovs nanoseconds at) d counter = λ r e. cc
 as-keeps (refused refusal) d counter = λ r e. refl
 
-pub refusal-keeps-confirm : (d : Domain) (t : VirtualLocalTime) (counter : ℕ) → Keeps d (confirmOf d t counter)
-refusal-keeps-confirm d t counter =
-    as-keeps (followOf (d .settings .«confirmation_time») (d .sending) t counter) d counter
-
--- ---- what a confirmation does
-
 abbrev NotOpen : Sending → Type 0
 NotOpen Never = Unit {0}
 NotOpen (Open sent seconds nanoseconds at) = ⊥
 NotOpen (Confirmed at) = Unit {0}
 
-pub confirm-closes :
-    (d : Domain) (t : VirtualLocalTime) (counter : ℕ) → confirmNumber (confirmOf d t counter .answer) ≡ 0 →
-    NotOpen (confirmOf d t counter .domain .sending)
-confirm-closes d t counter = by-sending (d .sending)
-  where
-    Closed : Follow → Type 0
-    Closed f = confirmNumber (confirmAs f d counter .answer) ≡ 0 → NotOpen (confirmAs f d counter .domain .sending)
+module _ (d : Domain) (t : VirtualLocalTime) (counter : ℕ) (room : Bool) where
+  pub refusal-keeps-confirm : Keeps d (confirmOf d t counter room)
+  refusal-keeps-confirm =
+      as-keeps (followOf (d .settings .«confirmation_time») (d .sending) t counter room) d counter
 
-    c : ℕ
-    c = d .settings .«confirmation_time»
+  -- ---- what a confirmation does
 
-    by-sending : (s : Sending) → Closed (followOf c s t counter)
-    by-sending Never = λ e. absurd (omega arith)
-    by-sending (Open sent seconds nanoseconds at) =
-        either Closed (isOpenFor c sent at t counter)
-        (either Closed (leb (ovsOf (record { 0 = seconds; 1 = nanoseconds }) at t) 3)
-        (λ e. tt) (λ e. absurd (omega arith)))
-        (λ e. absurd (omega arith))
-    by-sending (Confirmed at) = λ e. absurd (omega arith)
+  pub confirm-closes :
+      confirmNumber (confirmOf d t counter room .answer) ≡ 0 → NotOpen (confirmOf d t counter room .domain .sending)
+  confirm-closes =
+      by-follow
+      (λ (f : Follow).
+      confirmNumber (confirmAs f d counter .answer) ≡ 0 → NotOpen (confirmAs f d counter .domain .sending))
+      (d .settings .«confirmation_time») (d .sending) t counter room (λ e. absurd (omega arith))
+      (λ e. absurd (omega arith)) (λ g at told many e. absurd (omega arith)) (λ g at told few has-room e. tt)
+
+  pub followed-has-room : (f : Fup) → confirmOf d t counter room .answer ≡ Followed f → room ≡ true
+  followed-has-room f =
+      by-follow (λ (x : Follow). confirmAs x d counter .answer ≡ Followed f → room ≡ true)
+      (d .settings .«confirmation_time») (d .sending) t counter room (λ e. cc) (λ e. cc) (λ g at told many e. cc)
+      (λ g at told few has-room e. has-room)

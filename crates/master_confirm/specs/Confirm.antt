@@ -1,6 +1,6 @@
 -- Paper 01, "A master's domain": confirmation. Assumes nothing.
 use Prim.Native.Nat.{ℕ}
-use mathlib.Core.Bool.{false}
+use mathlib.Core.Bool.{Bool, false}
 use Rattle.clock.specs.declared.reading.VirtualLocalTime.{VirtualLocalTime}
 use Rattle.refusal.specs.Numbers.{numberOf}
 use Rattle.domain.specs.declared.Domain.{Domain}
@@ -40,5 +40,7 @@ abbrev pub confirmAs : Follow → Domain → ℕ → ConfirmStep
 confirmAs (With ovs nanoseconds at) d counter = followedOf d counter ovs nanoseconds at
 confirmAs (refused refusal) d counter = record { answer = Refused refusal; domain = d }
 
-abbrev pub confirmOf : Domain → VirtualLocalTime → ℕ → ConfirmStep
-confirmOf d t counter = confirmAs (followOf (d .settings .«confirmation_time») (d .sending) t counter) d counter
+-- ---- `room` says whether the buffer has the 8 bytes of a FUP
+abbrev pub confirmOf : Domain → VirtualLocalTime → (counter : ℕ) → (room : Bool) → ConfirmStep
+confirmOf d t counter room =
+    confirmAs (followOf (d .settings .«confirmation_time») (d .sending) t counter room) d counter

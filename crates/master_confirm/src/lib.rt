@@ -34,13 +34,14 @@ pub struct ConfirmStep {
     pub domain: Domain,
 }
 
-// The FUP of the open SYNC, which is then no longer open, or 11, 13.
-pub fn confirm(domain: Domain, t: VirtualLocalTime, counter: u8) -> ConfirmStep
-    ensures { λ r. ⌜ r ≡ confirmOf domain t counter ⌝ }
+// The FUP of the open SYNC, which is then no longer open, or 11, 12, 13. `room` says whether the buffer has the
+// 8 bytes of a FUP.
+pub fn confirm(domain: Domain, t: VirtualLocalTime, counter: u8, room: bool) -> ConfirmStep
+    ensures { λ r. ⌜ r ≡ confirmOf domain t counter room ⌝ }
 {
     let settings = domain.settings;
     let sending = domain.sending;
-    match follow_up(settings.confirmation_time, sending, t, counter) {
+    match follow_up(settings.confirmation_time, sending, t, counter, room) {
         Follow::Refused(refusal) => ConfirmStep {
             answer: ConfirmAnswer::Refused(refusal),
             domain,

@@ -1,16 +1,26 @@
 -- Laws of a FUP's time. No contract cites this file.
 --   whole-exact    the whole time is the SYNC's time and the reading's advance, to the nanosecond
 --   ovs-bound      OVS is at most 3 where C is in range and the SYNC's time is good
+--   by-follow      what a confirmation finds: 11, 12, 13 or a FUP; `OpenFor` is told of the SYNC where it is open
 -- Assumes nothing.
-use Prim.Native.Nat.{_+_, _≤_}
-use mathlib.Core.Path.{_≡_}
+use Prim.Native.Nat.{ℕ, _+_, _≤_, _<_}
+use mathlib.Core.Path.{_≡_, ap}
+use mathlib.Core.Bool.{Bool, true}
 use native.Mathlib.Omega.{arith}
+use lib.Dec.{leb, eqb}
+use borrow.Author.Tests.{leb-true, leb-false, eqb-true}
+use Rattle.promise.proofs.Tests.{either-told, both}
 use Rattle.clock.specs.declared.reading.VirtualLocalTime.{VirtualLocalTime}
 use Rattle.clock.specs.declared.time.GlobalTime.{GlobalTime}
 use Rattle.clock.specs.Reading.{spanOf}
 use Rattle.clock.specs.Time.{nanosecondsOf, IsSet}
 use Rattle.clock.proofs.Laws.{advance-exact}
-use Rattle.master_follow.specs.Follow.{wholeOf, ovsOf}
+use Rattle.refusal.specs.declared.Refusal.the-variants.{NoOpenSync, NoRoom, Ovs}
+use Rattle.domain.specs.declared.Sending.{Sending}
+use Rattle.domain.specs.declared.Sending.the-variants.{Never, Open, Confirmed}
+use Rattle.master_follow.specs.declared.Follow.{Follow}
+use Rattle.master_follow.specs.declared.Follow.the-variants.{With, Refused as refused}
+use Rattle.master_follow.specs.Follow.{isOpenFor, wholeOf, ovsOf, followOf}
 
 module _ (g : GlobalTime) (at t : VirtualLocalTime) (good : IsSet g) (fresh : spanOf at t ≤ 3000000000) where
   pub whole-exact : nanosecondsOf (wholeOf g at t) ≡ nanosecondsOf g + spanOf at t
@@ -18,3 +28,37 @@ module _ (g : GlobalTime) (at t : VirtualLocalTime) (good : IsSet g) (fresh : sp
 
   pub ovs-bound : ovsOf g at t ≤ 3
   ovs-bound = omega arith
+
+-- ---- the cases of a confirmation; g is the time of the open SYNC, and `at` its reading
+
+pub record OpenFor
+    (c : ℕ) (s : Sending) (t : VirtualLocalTime) (counter : ℕ) (g : GlobalTime) (at : VirtualLocalTime) : Type 0 where
+  pub held : s ≡ Open counter (g .0) (g .1) at
+  pub soon : spanOf at t ≤ c
+
+pub by-follow :
+    (P : Follow → Type 0) (c : ℕ) (s : Sending) (t : VirtualLocalTime) (counter : ℕ) (room : Bool) →
+    P (refused NoOpenSync) → P (refused NoRoom) →
+    ((g : GlobalTime) (at : VirtualLocalTime) → OpenFor c s t counter g at → 3 < ovsOf g at t → P (refused Ovs)) →
+    ((g : GlobalTime) (at : VirtualLocalTime) → OpenFor c s t counter g at → ovsOf g at t ≤ 3 → room ≡ true →
+    P (With (ovsOf g at t) (wholeOf g at t .1) at)) →
+    P (followOf c s t counter room)
+by-follow P c Never t counter room no-sync no-room above with = no-sync
+by-follow P c (Open sent seconds nanoseconds at) t counter room no-sync no-room above with =
+    let g : GlobalTime = record { 0 = seconds; 1 = nanoseconds } in
+    either-told P (isOpenFor c sent at t counter)
+    (λ found.
+    let tests = both (eqb sent counter) (leb (spanOf at t) c) found in
+    let told : OpenFor c (Open sent seconds nanoseconds at) t counter g at =
+    record {
+      held = ap (λ (n : ℕ). Open n seconds nanoseconds at) (eqb-true sent counter (tests .0));
+      soon = leb-true _ _ (tests .1);
+    }
+    in
+    either-told P room
+    (λ has-room.
+    either-told P (leb (ovsOf g at t) 3) (λ few. with g at told (leb-true _ _ few) has-room)
+    (λ many. above g at told (leb-false _ _ many)))
+    (λ none. no-room))
+    (λ closed. no-sync)
+by-follow P c (Confirmed at) t counter room no-sync no-room above with = no-sync

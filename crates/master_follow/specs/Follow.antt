@@ -1,4 +1,4 @@
--- Paper 01, "A master's domain": the FUP of an open SYNC. Assumes nothing.
+-- Paper 01, "A master's domain": the FUP of an open SYNC, or 11, 12, 13. Assumes nothing.
 use Prim.Native.Nat.{ℕ, _-_}
 use mathlib.Core.Bool.{Bool, cond, _&&_}
 use lib.Dec.{leb, eqb}
@@ -6,7 +6,7 @@ use Rattle.clock.specs.declared.reading.VirtualLocalTime.{VirtualLocalTime}
 use Rattle.clock.specs.declared.time.GlobalTime.{GlobalTime}
 use Rattle.clock.specs.Reading.{spanOf}
 use Rattle.clock.specs.Time.{advanced}
-use Rattle.refusal.specs.declared.Refusal.the-variants.{NoOpenSync, Ovs}
+use Rattle.refusal.specs.declared.Refusal.the-variants.{NoOpenSync, NoRoom, Ovs}
 use Rattle.domain.specs.declared.Sending.{Sending}
 use Rattle.domain.specs.declared.Sending.the-variants.{Never, Open, Confirmed}
 use Rattle.master_follow.specs.declared.Follow.{Follow}
@@ -27,9 +27,11 @@ ovsOf g at t = wholeOf g at t .0 - g .0
 abbrev pub followFrom : GlobalTime → VirtualLocalTime → VirtualLocalTime → Follow
 followFrom g at t = cond (leb (ovsOf g at t) 3) (With (ovsOf g at t) (wholeOf g at t .1) at) (refused Ovs)
 
-abbrev pub followOf : (c : ℕ) → Sending → VirtualLocalTime → ℕ → Follow
-followOf c Never t counter = refused NoOpenSync
-followOf c (Open sent seconds nanoseconds at) t counter =
-    cond (isOpenFor c sent at t counter) (followFrom (record { 0 = seconds; 1 = nanoseconds }) at t)
+-- ---- "in the order of the numbers": 11, 12 "output buffer under 8 bytes", 13; `room` says that it has 8
+abbrev pub followOf : (c : ℕ) → Sending → VirtualLocalTime → (counter : ℕ) → (room : Bool) → Follow
+followOf c Never t counter room = refused NoOpenSync
+followOf c (Open sent seconds nanoseconds at) t counter room =
+    cond (isOpenFor c sent at t counter)
+    (cond room (followFrom (record { 0 = seconds; 1 = nanoseconds }) at t) (refused NoRoom))
     (refused NoOpenSync)
-followOf c (Confirmed at) t counter = refused NoOpenSync
+followOf c (Confirmed at) t counter room = refused NoOpenSync

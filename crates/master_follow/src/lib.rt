@@ -17,14 +17,16 @@ pub enum Follow {
     Refused(Refusal),
 }
 
-// The time comes from the open SYNC alone, never from the base.
+// 11, 12, 13, or the time of the FUP, which comes from the open SYNC alone, never from the base. `room` says
+// whether the buffer has the 8 bytes of a FUP.
 pub fn follow_up(
     confirmation_time: u32,
     sending: Sending,
     t: VirtualLocalTime,
     counter: u8,
+    room: bool,
 ) -> Follow
-    ensures { λ r. ⌜ r ≡ followOf «confirmation_time» sending t counter ⌝ }
+    ensures { λ r. ⌜ r ≡ followOf «confirmation_time» sending t counter room ⌝ }
 {
     match sending {
         Sending::Never => Follow::Refused(Refusal::NoOpenSync),
@@ -39,6 +41,9 @@ pub fn follow_up(
             }
             if (confirmation_time as u64) < t.since(at) {
                 return Follow::Refused(Refusal::NoOpenSync);
+            }
+            if !room {
+                return Follow::Refused(Refusal::NoRoom);
             }
             follow_from(GlobalTime(seconds as u64, nanoseconds), at, t)
         }

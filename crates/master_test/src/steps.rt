@@ -69,7 +69,7 @@ pub fn confirmed(d: Domain, t: u64, counter: u8) -> Domain {
     line::word(b"confirm");
     line::small(counter);
     line::reading(t);
-    let step = confirm(d, VirtualLocalTime(t), counter);
+    let step = confirm(d, VirtualLocalTime(t), counter, true);
     let answer = step.answer;
     match answer {
         ConfirmAnswer::Followed(fup) => record::fup(fup),

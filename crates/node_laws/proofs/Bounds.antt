@@ -11,18 +11,14 @@
 -- Assumes nothing.
 use Prim.Native.Nat.{ℕ, _+_, _-_, _%_, _≤_, _<_}
 use mathlib.Core.Path.{_≡_, refl, sym, ap, subst}
-use mathlib.Core.Bool.{true}
+use mathlib.Core.Bool.{Bool, true}
 use native.Mathlib.Nat.{mod-eq-of-lt}
 use native.Mathlib.Omega.{arith}
-use lib.Dec.{leb, eqb}
-use borrow.Author.Tests.{leb-true, leb-false}
-use Rattle.promise.proofs.Laws.{either}
+use lib.Dec.{leb}
 use Rattle.clock.specs.declared.reading.VirtualLocalTime.{VirtualLocalTime}
-use Rattle.clock.specs.declared.time.GlobalTime.{GlobalTime}
 use Rattle.clock.specs.declared.base.TimeBase.{TimeBase}
 use Rattle.clock.specs.declared.base.Held.{Held}
 use Rattle.clock.specs.declared.base.Held.the-variants.{Unset, Set}
-use Rattle.clock.specs.Reading.{spanOf}
 use Rattle.clock.specs.Time.{nanosecondsOf, mostSet, mostReceived, IsSet, IsReceived, IsRead}
 use Rattle.clock.specs.Base.{timeAt}
 use Rattle.clock.proofs.Laws.{time-exact, read-bound}
@@ -37,19 +33,16 @@ use Rattle.domain.specs.declared.Sending.{Sending}
 use Rattle.domain.specs.declared.Sending.the-variants.{Never, Open, Confirmed}
 use Rattle.admission.specs.declared.Admission.{Admission}
 use Rattle.admission.specs.declared.Needed.the-variants.{Master as master, Either}
+use Rattle.admission.proofs.Laws.{by-admission, master-admitted}
 use Rattle.master_follow.specs.declared.Follow.{Follow}
-use Rattle.master_follow.specs.Follow.{isOpenFor, ovsOf, followOf}
-use Rattle.master_follow.proofs.Laws.{ovs-bound}
-use Rattle.master_confirm.specs.declared.ConfirmAnswer.{ConfirmAnswer}
-use Rattle.master_confirm.specs.declared.ConfirmAnswer.the-variants.{Followed, Refused}
+use Rattle.master_follow.proofs.Laws.{ovs-bound, by-follow}
+use Rattle.master_confirm.specs.declared.ConfirmAnswer.the-variants.{Refused}
 use Rattle.master_confirm.specs.Confirm.{confirmNumber, confirmAs, confirmOf}
 use Rattle.call_read.specs.declared.Shown.{Shown}
 use Rattle.call_read.specs.declared.ReadAnswer.the-variants.{Time, Refused as not-shown}
 use Rattle.call_read.specs.ReadCall.{readAs, readCallAs, readCallOf}
-use Rattle.call_confirm.specs.ConfirmCall.{withRoom, confirmAnswered, confirmCallAs, confirmCallOf}
+use Rattle.call_confirm.specs.ConfirmCall.{confirmCallAs, confirmCallOf}
 use Rattle.node_laws.specs.Good.{HeldWithin, SentWithin, RoleGood, RecordGood}
-use Rattle.node_laws.proofs.Told.{both, either-told}
-use Rattle.node_laws.proofs.Admitted.{Tested, by-admission, master-admitted}
 
 -- ---- the base, whatever the role
 
@@ -121,34 +114,24 @@ module _ (i : ℕ) (kept : VirtualLocalTime) (d : Domain) (g : RecordGood i kept
   -- ---- OVS
 
   pub ovs-within :
-      d .settings .role ≡ Master → (t : VirtualLocalTime) (counter : ℕ) →
-      confirmOf d t counter .answer ≡ Refused Ovs → ⊥
-  ovs-within r t counter = by-sending (d .sending) (subst (λ (r : Role). RoleGood r kept d) r (g .role) .sent)
+      d .settings .role ≡ Master → (t : VirtualLocalTime) (counter : ℕ) (room : Bool) →
+      confirmOf d t counter room .answer ≡ Refused Ovs → ⊥
+  ovs-within r t counter room =
+      by-follow (λ (f : Follow). confirmAs f d counter .answer ≡ Refused Ovs → ⊥) (d .settings .«confirmation_time»)
+      (d .sending) t counter room (λ e. omega (arith, ap confirmNumber e)) (λ e. omega (arith, ap confirmNumber e))
+      (λ from at told many e.
+      let h = subst (SentWithin kept (d .base) (d .«next_counter»)) (told .held) sent in
+      let good : IsSet from = record { whole = omega (arith, h .3); part = h .4 } in
+      omega (arith, many, ovs-bound from at t good (omega (arith, told .soon, in-range))))
+      (λ from at told few has-room e. omega (arith, ap confirmNumber e))
     where
-      c : ℕ
-      c = d .settings .«confirmation_time»
-
-      in-range : c ≤ 3000000000
+      in-range : d .settings .«confirmation_time» ≤ 3000000000
       in-range =
           master-range (d .settings) (subst (λ (r : Role). isGoodAs r (d .settings) ≡ true) r (g .settings))
           .confirmation .1
 
-      NotOvs : Follow → Type 0
-      NotOvs f = confirmAs f d counter .answer ≡ Refused Ovs → ⊥
-
-      by-sending : (s : Sending) → SentWithin kept (d .base) (d .«next_counter») s → NotOvs (followOf c s t counter)
-      by-sending Never h = λ e. omega (arith, ap confirmNumber e)
-      by-sending (Open sent seconds nanoseconds at) h =
-          either-told NotOvs (isOpenFor c sent at t counter)
-          (λ is.
-          let time : GlobalTime = record { 0 = seconds; 1 = nanoseconds } in
-          let young = leb-true (spanOf at t) c (both (eqb sent counter) (leb (spanOf at t) c) is .1) in
-          either-told NotOvs (leb (ovsOf time at t) 3) (λ few e. omega (arith, ap confirmNumber e))
-          (λ above e.
-          let good : IsSet time = record { whole = omega arith; part = h .4 } in
-          omega (arith, leb-false (ovsOf time at t) 3 above, ovs-bound time at t good (omega (arith, in-range)))))
-          (λ other e. omega (arith, ap confirmNumber e))
-      by-sending (Confirmed at) h = λ e. omega (arith, ap confirmNumber e)
+      sent : SentWithin kept (d .base) (d .«next_counter») (d .sending)
+      sent = subst (λ (r : Role). RoleGood r kept d) r (g .role) .sent
 
   pub call-ovs-within :
       (asked : ℕ) (t : VirtualLocalTime) (counter length : ℕ) →
@@ -156,23 +139,5 @@ module _ (i : ℕ) (kept : VirtualLocalTime) (d : Domain) (g : RecordGood i kept
   call-ovs-within asked t counter length =
       by-admission (λ (a : Admission). confirmCallAs a d kept t counter length .answer ≡ Refused Ovs → ⊥)
       kept t (d .number) (d .settings .role) asked master
-      (λ tested.
-      answered (withRoom a length)
-      (either NotOvs (leb 8 length) (here tested)
-      (either NotOvs (eqb (confirmNumber a) 11) (here tested) (λ e. omega (arith, ap confirmNumber e)))))
+      (λ tested. ovs-within (master-admitted (d .settings .role) (tested .in-role)) t counter (leb 8 length))
       (λ e. omega (arith, ap confirmNumber e)) (λ e. omega (arith, ap confirmNumber e))
-    where
-      a : ConfirmAnswer
-      a = confirmOf d t counter .answer
-
-      NotOvs : ConfirmAnswer → Type 0
-      NotOvs x = x ≡ Refused Ovs → ⊥
-
-      here : Tested kept t (d .settings .role) master → NotOvs a
-      here tested = ovs-within (master-admitted (d .settings .role) (tested .in-role)) t counter
-
-      answered :
-          (x : ConfirmAnswer) → NotOvs x →
-          NotOvs (confirmAnswered x (confirmOf d t counter .domain) d kept t .answer)
-      answered (Followed f) h = h
-      answered (Refused refusal) h = h

@@ -15,7 +15,7 @@ use lib.Dec.{ltb}
 use lib.ListN.{length, drop, set, length-append, length-drop}
 use lib.Seq.{drop-append-add, getD-set-other, drop-drop, take-at}
 use borrow.Author.Tests.{ltb-true, ltb-false, leb-true, le-leb}
-use Rattle.promise.proofs.Laws.{either}
+use Rattle.promise.proofs.Tests.{either}
 use Rattle.clock.specs.declared.reading.VirtualLocalTime.{VirtualLocalTime}
 use Rattle.frame.specs.declared.data_ids.DataIds.{DataIds}
 use Rattle.frame.specs.declared.values.Sync.{Sync}

@@ -9,6 +9,7 @@ use native.Mathlib.Omega.{arith}
 use borrow.Author.Tests.{leb-true}
 use lib.Dec.{leb}
 use lib.ListN.{length, replicate}
+use Rattle.promise.proofs.Tests.{either-told, both}
 use Rattle.clock.specs.declared.reading.VirtualLocalTime.{VirtualLocalTime}
 use Rattle.clock.specs.declared.base.Held.the-variants.{Unset}
 use Rattle.settings.specs.declared.domain_settings.DomainSettings.{DomainSettings}
@@ -31,7 +32,6 @@ use Rattle.domain.specs.Records.{recordAt}
 use Rattle.node.specs.New.{recordsOf, freshNode, newAs, newOf}
 use Rattle.node_laws.specs.Reachable.{IsSettings}
 use Rattle.node_laws.specs.Good.{RoleGood, RecordGood, Good}
-use Rattle.node_laws.proofs.Told.{either-told, both}
 
 -- ---- a fresh record, by what is held of its settings
 

@@ -5,10 +5,12 @@
 -- Assumes nothing.
 use Prim.Native.Nat.{ℕ}
 use mathlib.Core.List.{List}
-use mathlib.Core.Path.{refl, _≡_}
+use mathlib.Core.Path.{_≡_, refl}
+use lib.Dec.{leb}
 use lib.ListN.{length}
 use borrow.Author.Tests.{ne-eqb}
 use Rattle.clock.specs.declared.reading.VirtualLocalTime.{VirtualLocalTime}
+use Rattle.frame.specs.declared.data_ids.DataIds.{DataIds}
 use Rattle.refusal.specs.declared.Refusal.{Refusal}
 use Rattle.admission.specs.Admission.{admittedOf}
 use Rattle.admission.specs.FrameAdmission.{frameAdmitted}
@@ -31,6 +33,7 @@ use Rattle.slave_answer.specs.declared.FrameAnswer.the-variants.{
   SyncTaken,
   Updated,
 }
+use Rattle.master_confirm.proofs.Laws.{refusal-keeps-confirm}
 use Rattle.master_confirm.specs.Confirm.{confirmNumber, confirmOf}
 use Rattle.master_confirm.specs.declared.ConfirmAnswer.{ConfirmAnswer}
 use Rattle.master_confirm.specs.declared.ConfirmAnswer.the-variants.{Followed, Refused}
@@ -38,7 +41,7 @@ use Rattle.master_set.proofs.Laws.{refusal-keeps-set}
 use Rattle.master_set.specs.Set.{setNumber, setOf}
 use Rattle.master_set.specs.declared.SetAnswer.{SetAnswer}
 use Rattle.master_set.specs.declared.SetAnswer.the-variants.{Done, Refused as not-set}
-use Rattle.call_confirm.specs.ConfirmCall.{confirmAnswered, confirmBytes, confirmCallAs, confirmCallOf, withRoom}
+use Rattle.call_confirm.specs.ConfirmCall.{confirmBytes, confirmCallAs, confirmCallOf}
 use Rattle.call_confirm.specs.declared.ConfirmCall.{ConfirmCall}
 use Rattle.call_frame.specs.FrameCall.{frameCallAs, frameCallOf}
 use Rattle.call_frame.specs.declared.FrameCall.{FrameCall}
@@ -104,18 +107,28 @@ KeepsConfirm d kept out r =
     (confirmNumber (r .answer) ≡ 0 → ⊥) →
     (r .domain ≡ d) × (r .kept ≡ kept) × (confirmBytes (r .answer) (d .settings .ids) out ≡ out)
 
-answered-keeps :
-    (a : ConfirmAnswer) (after d : Domain) (kept t : VirtualLocalTime) (out : List ℕ) →
-    KeepsConfirm d kept out (confirmAnswered a after d kept t)
-answered-keeps (Followed f) after d kept t out = λ n. absurd (n refl)
-answered-keeps (Refused refusal) after d kept t out = λ n. (refl, refl, refl)
+refused-confirm :
+    (a : ConfirmAnswer) → (confirmNumber a ≡ 0 → ⊥) → {P : Type 0} → ((refusal : Refusal) → a ≡ Refused refusal → P) → P
+refused-confirm (Followed f) n p = absurd (n refl)
+refused-confirm (Refused refusal) n p = p refusal refl
+
+refused-bytes :
+    (a : ConfirmAnswer) → (confirmNumber a ≡ 0 → ⊥) → (ids : DataIds) (out : List ℕ) → confirmBytes a ids out ≡ out
+refused-bytes (Followed f) n ids out = absurd (n refl)
+refused-bytes (Refused refusal) n ids out = refl
 
 confirm-keeps :
     (f : Admission) (d : Domain) (kept t : VirtualLocalTime) (counter : ℕ) (out : List ℕ) →
     KeepsConfirm d kept out (confirmCallAs f d kept t counter (length out))
 confirm-keeps (refused refusal) d kept t counter out = λ n. (refl, refl, refl)
 confirm-keeps Admitted d kept t counter out =
-    answered-keeps (withRoom (confirmOf d t counter .answer) (length out)) (confirmOf d t counter .domain) d kept t out
+    λ n.
+    let room = leb 8 (length out) in
+    let answer = confirmOf d t counter room .answer in (
+      refused-confirm answer n (refusal-keeps-confirm d t counter room),
+      rw (ne-eqb (confirmNumber answer) 0 n),
+      refused-bytes answer n (d .settings .ids) out,
+    )
 
 pub refusal-keeps-confirm-call :
     (d : Domain) (kept : VirtualLocalTime) (asked : ℕ) (t : VirtualLocalTime) (counter : ℕ) (out : List ℕ) →

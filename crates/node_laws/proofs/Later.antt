@@ -1,5 +1,6 @@
 -- A later reading kept: what is good of a record stays so. No contract cites this file.
---   later   a record that is good at a kept reading is good at every later one
+--   later        a record that is good at a kept reading is good at every later one
+--   kept-stays   a kept reading that stays only grows, in its range (`Grows`)
 -- Assumes nothing.
 use Prim.Native.Nat.{ℕ, _≤_}
 use native.Mathlib.Omega.{arith}
@@ -62,3 +63,11 @@ later i kept kept′ d le g =
       updates = g .updates;
       role = role-later kept kept′ le (d .settings .role) d (g .role);
     }
+
+-- ---- a kept reading that only grows, in its range
+
+abbrev pub Grows : VirtualLocalTime → VirtualLocalTime → Type 0
+Grows kept after = (kept .0 ≤ after .0) × (kept .0 ≤ 1000000000000000000 → after .0 ≤ 1000000000000000000)
+
+pub kept-stays : (kept : VirtualLocalTime) → Grows kept kept
+kept-stays kept = (omega arith, λ h. h)

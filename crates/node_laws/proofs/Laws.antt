@@ -9,21 +9,20 @@
 -- Assumes nothing.
 use Prim.Native.Nat.{ℕ, zero, suc, _+_, _%_, _<_}
 use mathlib.Core.Path.{_≡_, refl, sym, ap, _∙_}
-use mathlib.Core.Bool.{Bool, true, false, _&&_}
+use mathlib.Core.Bool.{Bool, true, false, false≢true}
 use mathlib.Core.List.{List}
-use lib.Dec.{leb, ltb, eqb}
+use lib.Dec.{ltb, eqb}
 use lib.ListN.{length, set as put}
 use lib.Seq.{getD-set-same, getD-set-other, set-getD}
 use borrow.Author.Tests.{eqb-true, eqb-false}
-use Rattle.promise.proofs.Laws.{either}
+use Rattle.promise.proofs.Tests.{either}
 use Rattle.clock.specs.declared.reading.VirtualLocalTime.{VirtualLocalTime}
-use Rattle.clock.specs.declared.base.Held.{Held}
-use Rattle.clock.specs.declared.base.Held.the-variants.{Unset, Set}
-use Rattle.clock.specs.Base.{timeAt}
 use Rattle.admission.specs.Reading.{isGoodReading}
 use Rattle.domain.specs.declared.Domain.{Domain}
-use Rattle.master_rules.specs.Due.{isMaster, dueOf}
-use Rattle.master_send.specs.Send.{sendAs}
+use Rattle.master_rules.specs.declared.due.Due.{Due}
+use Rattle.master_rules.specs.Due.{isMaster}
+use Rattle.master_rules.proofs.Laws.{by-due}
+use Rattle.master_send.specs.Send.{sendAs, sendOf}
 use Rattle.domain.specs.Records.{recordAt}
 use Rattle.round.specs.Turn.{turnOf, nextAfter}
 use Rattle.round.specs.Round.{sentAfter, goes}
@@ -105,21 +104,17 @@ read-keeps n domain t = refl
 -- ---- "A domain's answers don't depend on calls for other domains, save through number 1 and, for masters,
 -- through S and the round."
 
-and-false : (b : Bool) → b && false ≡ false
-and-false true = refl
-and-false false = refl
-
 -- who is no master does not send
-no-master :
-    (base : Held) (d : Domain) (t : VirtualLocalTime) → isMaster (d .settings .role) ≡ false →
-    sendAs (dueOf (d .settings .role) (d .settings .period) base (d .sending) t) d t .domain ≡ d
-no-master Unset d t e = refl
-no-master (Set b) d t e = rw (e, and-false (leb (timeAt b t .0) 4294967295))
+no-master : (d : Domain) (t : VirtualLocalTime) → isMaster (d .settings .role) ≡ false → sendOf d t .domain ≡ d
+no-master d t e =
+    by-due (λ (due : Due). sendAs due d t .domain ≡ d) (d .settings .role) (d .settings .period) (d .base) (d .sending)
+    t refl
+    (λ b told. absurd (false≢true (sym e ∙ ap isMaster (told .master))))
 
 turn-keeps :
     (b : Bool) (d : Domain) (t : VirtualLocalTime) → isMaster (d .settings .role) ≡ false →
     turnOf b d t .domain ≡ d
-turn-keeps true d t e = no-master (d .base) d t e
+turn-keeps true d t e = no-master d t e
 turn-keeps false d t e = refl
 
 -- a turn leaves the record at place i, be it its own or another's

@@ -1,7 +1,5 @@
 -- The laws of `node_laws`, each after what it stands on.
-pub mod Told
 pub mod Later
-pub mod Admitted
 pub mod Slave
 pub mod Master
 pub mod Rounds

@@ -5,11 +5,11 @@
 -- Assumes nothing.
 use Prim.Native.Nat.{ℕ, _+_, _%_, _≤_, _<_}
 use mathlib.Core.Path.{_≡_, refl, sym, subst}
-use mathlib.Core.Bool.{true, _&&_}
+use mathlib.Core.Bool.{Bool}
 use native.Mathlib.Omega.{arith}
-use lib.Dec.{leb}
+use lib.Dec.{leb, eqb}
 use borrow.Author.Tests.{leb-true}
-use Rattle.promise.proofs.Laws.{either}
+use Rattle.promise.proofs.Tests.{either, either-told}
 use Rattle.clock.specs.declared.reading.VirtualLocalTime.{VirtualLocalTime}
 use Rattle.clock.specs.declared.base.TimeBase.{TimeBase}
 use Rattle.clock.specs.declared.base.Held.{Held}
@@ -18,31 +18,28 @@ use Rattle.clock.specs.Reading.{spanOf}
 use Rattle.clock.specs.Base.{timeAt}
 use Rattle.clock.proofs.Laws.{advance-good}
 use Rattle.settings.specs.declared.domain_settings.Role.{Role}
-use Rattle.settings.specs.declared.domain_settings.Role.the-variants.{Absent, Slave, Master}
+use Rattle.settings.specs.declared.domain_settings.Role.the-variants.{Master}
 use Rattle.domain.specs.declared.Domain.{Domain}
 use Rattle.domain.specs.declared.Sending.{Sending}
 use Rattle.domain.specs.declared.Sending.the-variants.{Never, Open, Confirmed}
 use Rattle.domain.proofs.Laws.{update-bound}
 use Rattle.admission.specs.declared.Needed.the-variants.{Master as master}
 use Rattle.admission.specs.declared.Admission.{Admission}
+use Rattle.admission.proofs.Laws.{by-admission, master-admitted}
 use Rattle.master_rules.specs.declared.due.Due.{Due}
-use Rattle.master_rules.specs.Due.{isMaster, hasWaited, dueWith, dueOf}
 use Rattle.master_follow.specs.declared.Follow.{Follow}
-use Rattle.master_follow.specs.Follow.{isOpenFor, ovsOf, followOf}
-use Rattle.master_rules.proofs.Laws.{due-fits}
+use Rattle.master_rules.proofs.Laws.{by-due}
+use Rattle.master_follow.proofs.Laws.{by-follow}
 use Rattle.master_set.specs.declared.SetStep.{SetStep}
-use Rattle.master_confirm.specs.declared.ConfirmAnswer.{ConfirmAnswer}
-use Rattle.master_confirm.specs.declared.ConfirmAnswer.the-variants.{Followed, Refused}
 use Rattle.master_set.specs.Set.{withTime}
 use Rattle.master_send.specs.Send.{sentOf, sendAs, sendOf}
-use Rattle.master_confirm.specs.Confirm.{confirmAs, confirmOf}
+use Rattle.master_confirm.specs.Confirm.{confirmNumber, confirmAs, confirmOf}
 use Rattle.call_set.specs.declared.SetCall.{SetCall}
 use Rattle.call_set.specs.SetCall.{setStepped, setCallAs, setCallOf}
-use Rattle.call_confirm.specs.ConfirmCall.{withRoom, confirmAnswered, confirmCallAs, confirmCallOf}
+use Rattle.call_confirm.specs.declared.ConfirmCall.{ConfirmCall}
+use Rattle.call_confirm.specs.ConfirmCall.{confirmStepped, confirmCallAs, confirmCallOf}
 use Rattle.node_laws.specs.Good.{Blank, BaseSet, SentWithin, MasterGood, RoleGood, RecordGood}
-use Rattle.node_laws.proofs.Later.{later}
-use Rattle.node_laws.proofs.Told.{both, either-told}
-use Rattle.node_laws.proofs.Admitted.{by-admission, master-admitted}
+use Rattle.node_laws.proofs.Later.{later, Grows, kept-stays}
 
 -- ---- a good record in the master's role
 
@@ -105,12 +102,6 @@ set-good i kept asked t s ns d fits g =
     (λ e. g))
     g g
 
-abbrev pub Grows : VirtualLocalTime → VirtualLocalTime → Type 0
-Grows kept after = (kept .0 ≤ after .0) × (kept .0 ≤ 1000000000000000000 → after .0 ≤ 1000000000000000000)
-
-stays : (kept : VirtualLocalTime) → Grows kept kept
-stays kept = (omega arith, λ h. h)
-
 pub set-kept :
     (kept : VirtualLocalTime) (asked : ℕ) (t : VirtualLocalTime) (s ns : ℕ) (d : Domain) →
     Grows kept (setCallOf d kept asked t s ns .kept)
@@ -119,8 +110,8 @@ set-kept kept asked t s ns d =
     kept t (d .number) (d .settings .role) asked master
     (λ tested.
     either (λ (x : SetStep). Grows kept (setStepped x kept t .kept)) (leb ns 999999999)
-    (tested .not-before, λ h. tested .in-range) (stays kept))
-    (stays kept) (stays kept)
+    (tested .not-before, λ h. tested .in-range) (kept-stays kept))
+    (kept-stays kept) (kept-stays kept)
 
 -- ---- what was sent last, and the counter that is next: a confirmation and a turn touch nothing else
 
@@ -143,6 +134,9 @@ sending-as d s next =
 still-blank : (b : Held) (d : Domain) (s : Sending) (next : ℕ) → Blank b d → Blank b (sending-as d s next)
 still-blank Unset d s next h = h
 still-blank (Set b) d s next h = h
+
+abbrev ConfirmGood : ℕ → ConfirmCall → Type 0
+ConfirmGood i r = RecordGood i (r .kept) (r .domain)
 
 module _ (i : ℕ) (t : VirtualLocalTime) (d : Domain) (e : d .settings .role ≡ Master) (g : RecordGood i t d) where
   sending-good : (s : Sending) (next : ℕ) → SentWithin t (d .base) next s → RecordGood i t (sending-as d s next)
@@ -169,23 +163,15 @@ module _ (i : ℕ) (t : VirtualLocalTime) (d : Domain) (e : d .settings .role �
 
   -- ---- confirmation
 
-  confirmed : (counter : ℕ) → RecordGood i t (confirmOf d t counter .domain)
-  confirmed counter = by-sending (d .sending) (as-master i t d e g .sent)
-    where
-      c : ℕ
-      c = d .settings .«confirmation_time»
-
-      Kept : Follow → Type 0
-      Kept f = RecordGood i t (confirmAs f d counter .domain)
-
-      by-sending : (s : Sending) → SentWithin t (d .base) (d .«next_counter») s → Kept (followOf c s t counter)
-      by-sending Never h = g
-      by-sending (Open sent seconds nanoseconds at) h =
-          either Kept (isOpenFor c sent at t counter)
-          (either Kept (leb (ovsOf (record { 0 = seconds; 1 = nanoseconds }) at t) 3)
-          (sending-good (Confirmed at) (d .«next_counter») (h .0, omega arith, h .5)) g)
-          g
-      by-sending (Confirmed at) h = g
+  confirmed :
+      (kept : VirtualLocalTime) (counter : ℕ) (room : Bool) → RecordGood i kept d →
+      ConfirmGood i (confirmStepped (confirmOf d t counter room) kept t)
+  confirmed kept counter room old =
+      by-follow (λ (f : Follow). ConfirmGood i (confirmStepped (confirmAs f d counter) kept t))
+      (d .settings .«confirmation_time») (d .sending) t counter room old old (λ from at told many. old)
+      (λ from at told few has-room.
+      let h = subst (SentWithin t (d .base) (d .«next_counter»)) (told .held) (as-master i t d e g .sent) in
+      sending-good (Confirmed at) (d .«next_counter») (h .0, omega arith, h .5))
 
   -- ---- a turn
 
@@ -202,34 +188,18 @@ module _ (i : ℕ) (t : VirtualLocalTime) (d : Domain) (e : d .settings .role �
         omega arith,
       )
 
-answered :
-    (i : ℕ) (kept t : VirtualLocalTime) (a : ConfirmAnswer) (after d : Domain) → RecordGood i kept d →
-    RecordGood i t after →
-    RecordGood i (confirmAnswered a after d kept t .kept) (confirmAnswered a after d kept t .domain)
-answered i kept t (Followed f) after d g h = h
-answered i kept t (Refused refusal) after d g h = g
-
 pub confirm-good :
     (i : ℕ) (kept : VirtualLocalTime) (asked : ℕ) (t : VirtualLocalTime) (counter length : ℕ) (d : Domain) →
     RecordGood i kept d →
     RecordGood i (confirmCallOf d kept asked t counter length .kept)
     (confirmCallOf d kept asked t counter length .domain)
 confirm-good i kept asked t counter length d g =
-    by-admission
-    (λ (a : Admission).
-    RecordGood i (confirmCallAs a d kept t counter length .kept) (confirmCallAs a d kept t counter length .domain))
-    kept t (d .number) (d .settings .role) asked master
+    by-admission (λ (a : Admission). ConfirmGood i (confirmCallAs a d kept t counter length)) kept t (d .number)
+    (d .settings .role) asked master
     (λ tested.
-    answered i kept t (withRoom (confirmOf d t counter .answer) length) (confirmOf d t counter .domain) d g
-    (confirmed i t d (master-admitted (d .settings .role) (tested .in-role)) (later i kept t d (tested .not-before) g)
-    counter))
+    confirmed i t d (master-admitted (d .settings .role) (tested .in-role)) (later i kept t d (tested .not-before) g)
+    kept counter (leb 8 length) g)
     g g
-
-answered-kept :
-    (kept t : VirtualLocalTime) (a : ConfirmAnswer) (after d : Domain) → Grows kept t →
-    Grows kept (confirmAnswered a after d kept t .kept)
-answered-kept kept t (Followed f) after d h = h
-answered-kept kept t (Refused refusal) after d h = stays kept
 
 pub confirm-kept :
     (kept : VirtualLocalTime) (asked : ℕ) (t : VirtualLocalTime) (counter length : ℕ) (d : Domain) →
@@ -238,40 +208,19 @@ confirm-kept kept asked t counter length d =
     by-admission (λ (a : Admission). Grows kept (confirmCallAs a d kept t counter length .kept)) kept t (d .number)
     (d .settings .role) asked master
     (λ tested.
-    answered-kept kept t (withRoom (confirmOf d t counter .answer) length) (confirmOf d t counter .domain) d
-    (tested .not-before, λ h. tested .in-range))
-    (stays kept) (stays kept)
+    either (Grows kept) (eqb (confirmNumber (confirmOf d t counter (leb 8 length) .answer)) 0)
+    (tested .not-before, λ h. tested .in-range) (kept-stays kept))
+    (kept-stays kept) (kept-stays kept)
 
 -- ---- the main cycle's part on one record
-
-is-master : (role : Role) → isMaster role ≡ true → role ≡ Master
-is-master Absent e = cc
-is-master Slave e = cc
-is-master Master e = refl
 
 pub send-good :
     (i : ℕ) (kept t : VirtualLocalTime) (d : Domain) → kept .0 ≤ t .0 → RecordGood i kept d →
     RecordGood i t (sendOf d t .domain)
-send-good i kept t d le g = by-base (d .base) refl
+send-good i kept t d le g =
+    by-due (λ (due : Due). RecordGood i t (sendAs due d t .domain)) (d .settings .role) (d .settings .period) (d .base)
+    (d .sending) t still
+    (λ b told. sent-good i t d (told .master) still b (told .held) (told .seconds))
   where
-    role : Role
-    role = d .settings .role
-
-    p : ℕ
-    p = d .settings .period
-
-    Kept : Due → Type 0
-    Kept due = RecordGood i t (sendAs due d t .domain)
-
     still : RecordGood i t d
     still = later i kept t d le g
-
-    by-base : (b : Held) → d .base ≡ b → Kept (dueOf role p b (d .sending) t)
-    by-base Unset e = still
-    by-base (Set b) e =
-        either-told Kept (dueWith role p (timeAt b t) (d .sending) t)
-        (λ due.
-        let tests = both (leb (timeAt b t .0) 4294967295 && isMaster role) (hasWaited p (d .sending) t) due in
-        sent-good i t d (is-master role (both (leb (timeAt b t .0) 4294967295) (isMaster role) (tests .0) .1)) still b e
-        (due-fits role p (timeAt b t) (d .sending) t due))
-        (λ e. still)

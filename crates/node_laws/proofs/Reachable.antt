@@ -19,7 +19,7 @@ use mathlib.Core.List.{List}
 use native.Mathlib.Nat.{mod-eq-of-lt}
 use native.Mathlib.Omega.{arith}
 use lib.ListN.{length, take}
-use Rattle.promise.proofs.Laws.{either}
+use Rattle.promise.proofs.Tests.{either, either-told}
 use Rattle.clock.specs.declared.reading.VirtualLocalTime.{VirtualLocalTime}
 use Rattle.clock.specs.declared.base.TimeBase.{TimeBase}
 use Rattle.clock.specs.declared.base.Held.the-variants.{Set}
@@ -48,10 +48,10 @@ use Rattle.node_call.specs.Calls.{Call, frame, read, set, cycle, confirm, nodeA
 use Rattle.node_laws.specs.Reachable.{IsCall, Reachable, new, after}
 use Rattle.node_laws.specs.Good.{RecordGood, Good}
 use Rattle.node_laws.specs.Back.{Each, SyncBack}
-use Rattle.node_laws.proofs.Told.{either-told}
-use Rattle.node_laws.proofs.Admitted.{good-reading}
-use Rattle.node_laws.proofs.Slave.{frame-good, frame-kept, frame-range}
-use Rattle.node_laws.proofs.Master.{Grows, set-good, set-kept, confirm-good, confirm-kept}
+use Rattle.admission.proofs.Laws.{good-reading}
+use Rattle.node_laws.proofs.Later.{Grows}
+use Rattle.node_laws.proofs.Slave.{frame-good, frame-kept}
+use Rattle.node_laws.proofs.Master.{set-good, set-kept, confirm-good, confirm-kept}
 use Rattle.node_laws.proofs.Rounds.{AllGood, all-later, stored-good, round-good}
 use Rattle.node_laws.proofs.Fresh.{new-good}
 use Rattle.node_laws.proofs.ReadBack.{good-sync-back, good-fup-back}
@@ -112,7 +112,7 @@ pub call-good : (n : Node) (c : Call) → IsCall c → Good n → Good (nodeAfte
 call-good n (frame t bytes) is g =
     let at = addressedBy bytes in
     let d = recordAt (n .domains) at in
-    stored n at _ _ g (omega arith) (frame-kept (n .kept) t bytes d, frame-range (n .kept) t bytes d)
+    stored n at _ _ g (omega arith) (frame-kept (n .kept) t bytes d)
     (frame-good at (n .kept) t bytes d is (g .records at (omega arith)))
 call-good n (read domain t) is g = g
 call-good n (set domain t s ns) is g =

@@ -3,21 +3,15 @@
 --   fup-read-back    so is the FUP of a confirmation that is not refused
 --   good-sync-back, good-fup-back   both for a good node
 -- Assumes nothing.
-use Prim.Native.Nat.{ℕ, _%_, _≤_, _<_}
+use Prim.Native.Nat.{ℕ, _%_, _<_}
 use mathlib.Core.Path.{_≡_, refl, ap, _∙_, subst}
-use mathlib.Core.Bool.{Bool, true, false, cond, _&&_}
+use mathlib.Core.Bool.{Bool, false}
 use mathlib.Core.List.{List}
 use native.Mathlib.Omega.{arith}
-use lib.Dec.{leb, eqb}
+use lib.Dec.{leb}
 use lib.ListN.{length, take, drop}
 use lib.Seq.{take-at}
-use borrow.Author.Tests.{leb-true, eqb-true}
-use Rattle.promise.proofs.Laws.{either}
 use Rattle.clock.specs.declared.reading.VirtualLocalTime.{VirtualLocalTime}
-use Rattle.clock.specs.declared.time.GlobalTime.{GlobalTime}
-use Rattle.clock.specs.declared.base.Held.{Held}
-use Rattle.clock.specs.declared.base.Held.the-variants.{Unset, Set}
-use Rattle.clock.specs.Reading.{spanOf}
 use Rattle.clock.specs.Base.{timeAt}
 use Rattle.frame.specs.declared.values.Sync.{Sync}
 use Rattle.frame.specs.declared.values.Fup.{Fup}
@@ -29,29 +23,28 @@ use Rattle.frame_laws.specs.RoundTrip.{SyncFits, FupFits}
 use Rattle.frame_write.proofs.Laws.{bytes-length}
 use Rattle.frame_laws.proofs.Laws.{read-back}
 use Rattle.refusal.specs.declared.Refusal.{Refusal}
-use Rattle.refusal.specs.declared.Refusal.the-variants.{NoOpenSync, Ovs}
+use Rattle.refusal.specs.declared.Refusal.the-variants.{Reading, Domain as NoDomain, NoOpenSync, NoRoom, Ovs}
 use Rattle.settings.specs.declared.domain_settings.Role.{Role}
 use Rattle.settings.specs.declared.domain_settings.Role.the-variants.{Absent, Slave, Master}
 use Rattle.admission.specs.declared.Admission.{Admission}
-use Rattle.admission.specs.declared.Admission.the-variants.{Admitted, Refused as not-admitted}
 use Rattle.admission.specs.declared.Needed.the-variants.{Master as master}
-use Rattle.admission.specs.Admission.{admittedOf}
+use Rattle.admission.proofs.Laws.{by-admission}
 use Rattle.domain.specs.declared.Domain.{Domain}
 use Rattle.domain.specs.declared.Sending.{Sending}
 use Rattle.domain.specs.declared.Sending.the-variants.{Never, Open, Confirmed}
 use Rattle.master_rules.specs.declared.due.Due.{Due}
-use Rattle.master_rules.specs.declared.due.Due.the-variants.{At, No}
-use Rattle.master_rules.specs.Due.{isMaster, hasWaited, dueOf}
+use Rattle.master_rules.proofs.Laws.{by-due}
 use Rattle.master_follow.specs.declared.Follow.{Follow}
 use Rattle.master_follow.specs.declared.Follow.the-variants.{With, Refused as refused}
-use Rattle.master_follow.specs.Follow.{wholeOf, ovsOf, followFrom, followOf}
+use Rattle.master_follow.specs.Follow.{wholeOf, ovsOf}
+use Rattle.master_follow.proofs.Laws.{by-follow}
 use Rattle.master_rules.specs.Sent.{protectionOf}
 use Rattle.master_send.specs.declared.SendAnswer.the-variants.{Sent}
-use Rattle.master_send.specs.Send.{dueIn, sendAs, sendOf}
+use Rattle.master_send.specs.Send.{sendAs, sendOf}
 use Rattle.master_confirm.specs.declared.ConfirmAnswer.{ConfirmAnswer}
-use Rattle.master_confirm.specs.declared.ConfirmAnswer.the-variants.{Followed, Refused}
-use Rattle.master_confirm.specs.Confirm.{confirmNumber, confirmAs, confirmOf}
-use Rattle.call_confirm.specs.ConfirmCall.{withRoom, confirmAnswered, confirmCallAs, confirmCallOf}
+use Rattle.master_confirm.specs.declared.ConfirmAnswer.the-variants.{Followed}
+use Rattle.master_confirm.specs.Confirm.{confirmAs, confirmOf}
+use Rattle.call_confirm.specs.ConfirmCall.{confirmCallAs, confirmCallOf}
 use Rattle.domain.specs.Records.{recordAt}
 use Rattle.round.specs.Round.{roundOf}
 use Rattle.node.specs.declared.Node.{Node}
@@ -73,37 +66,13 @@ sentBy d seconds =
       protection = protectionOf (d .settings .security) (d .settings .user .1);
     }
 
--- the seconds of a due domain fit 32 bits
-due-seconds :
-    (role : Role) (p : ℕ) (base : Held) (sending : Sending) (t : VirtualLocalTime) (s ns : ℕ) →
-    dueOf role p base sending t ≡ At s ns → s ≤ 4294967295
-due-seconds role p Unset sending t s ns = λ e. let no : _≡_ {A = ℕ} 0 1 = cc in absurd (omega arith)
-due-seconds role p (Set b) sending t s ns =
-    go (leb (timeAt b t .0) 4294967295) refl (isMaster role) (hasWaited p sending t)
-  where
-    go :
-        (low : Bool) → leb (timeAt b t .0) 4294967295 ≡ low → (role-fits waited : Bool) →
-        cond (low && role-fits && waited) (At (timeAt b t .0) (timeAt b t .1)) No ≡ At s ns → s ≤ 4294967295
-    go true l true true e =
-        let same : timeAt b t .0 ≡ s = cc in
-        omega (arith, leb-true (timeAt b t .0) 4294967295 l)
-    go true l true false e = let no : _≡_ {A = ℕ} 0 1 = cc in absurd (omega arith)
-    go true l false waited e = let no : _≡_ {A = ℕ} 0 1 = cc in absurd (omega arith)
-    go false l role-fits waited e = let no : _≡_ {A = ℕ} 0 1 = cc in absurd (omega arith)
-
-module _ (d : Domain) (t : VirtualLocalTime) (h : d .number < 16) where
-  as-fits :
-      (due : Due) → ((s ns : ℕ) → due ≡ At s ns → s ≤ 4294967295) →
-      (s : Sync) → sendAs due d t .answer ≡ Sent s → SyncFits s
-  as-fits (At seconds nanoseconds) low s e =
-      let same : sentBy d seconds ≡ s = cc in
-      subst SyncFits same
-      (record { domain = h; counter = omega arith; seconds = omega (arith, low seconds nanoseconds refl) })
-  as-fits No low s e = let no : _≡_ {A = ℕ} 0 1 = cc in absurd (omega arith)
-
-  sent-fits : (s : Sync) → sendOf d t .answer ≡ Sent s → SyncFits s
-  sent-fits =
-      as-fits (dueIn d t) (due-seconds (d .settings .role) (d .settings .period) (d .base) (d .sending) t)
+sent-fits : (d : Domain) (t : VirtualLocalTime) → d .number < 16 → (s : Sync) → sendOf d t .answer ≡ Sent s → SyncFits s
+sent-fits d t h s =
+    by-due (λ (due : Due). sendAs due d t .answer ≡ Sent s → SyncFits s) (d .settings .role) (d .settings .period)
+    (d .base) (d .sending) t (λ e. let no : _≡_ {A = ℕ} 0 1 = cc in absurd (omega arith))
+    (λ b told e.
+    let same : sentBy d (timeAt b t .0) ≡ s = cc in
+    subst SyncFits same (record { domain = h; counter = omega arith; seconds = omega (arith, told .seconds) }))
 
 pub sync-read-back :
     (ds : List Domain) (first : ℕ) (t : VirtualLocalTime) (most : ℕ) →
@@ -145,55 +114,21 @@ module _ (d : Domain) (t : VirtualLocalTime) (counter : ℕ) (f : Fup) (h : d .n
   refused-fits : (refusal : Refusal) → Fits (refused refusal)
   refused-fits refusal e = let no : _≡_ {A = ℕ} 0 1 = cc in absurd (omega arith)
 
-  from-fits : (g : GlobalTime) (at : VirtualLocalTime) → counter < 16 → Fits (followFrom g at t)
-  from-fits g at c = go (leb (ovsOf g at t) 3) refl
-    where
-      go :
-          (low : Bool) → leb (ovsOf g at t) 3 ≡ low →
-          Fits (cond low (With (ovsOf g at t) (wholeOf g at t .1) at) (refused Ovs))
-      go false l = refused-fits Ovs
-      go true l =
-          with-fits (ovsOf g at t) (wholeOf g at t .1) at c (omega (arith, leb-true (ovsOf g at t) 3 l)) (omega arith)
-
-  follow-fits : (c : ℕ) (s : Sending) → OpenBelow s → Fits (followOf c s t counter)
-  follow-fits c Never o = refused-fits NoOpenSync
-  follow-fits c (Open sent seconds nanoseconds at) o = go (eqb sent counter) refl (leb (spanOf at t) c)
-    where
-      go :
-          (same : Bool) → eqb sent counter ≡ same → (young : Bool) →
-          Fits
-          (cond (same && young) (followFrom (record { 0 = seconds; 1 = nanoseconds }) at t) (refused NoOpenSync))
-      go true e true = from-fits (record { 0 = seconds; 1 = nanoseconds }) at (omega (arith, eqb-true sent counter e))
-      go true e false = refused-fits NoOpenSync
-      go false e young = refused-fits NoOpenSync
-  follow-fits c (Confirmed at) o = refused-fits NoOpenSync
-
-  -- the record's call answers what the step answers
-  room-said : (a : ConfirmAnswer) (length : ℕ) → withRoom a length ≡ Followed f → a ≡ Followed f
-  room-said a length =
-      either (λ (x : ConfirmAnswer). x ≡ Followed f → a ≡ Followed f) (leb 8 length) (λ e. e)
-      (either (λ (x : ConfirmAnswer). x ≡ Followed f → a ≡ Followed f) (eqb (confirmNumber a) 11) (λ e. e) (λ e. cc))
-
-  answered-said :
-      (a : ConfirmAnswer) (after : Domain) (kept : VirtualLocalTime) →
-      confirmAnswered a after d kept t .answer ≡ Followed f → a ≡ Followed f
-  answered-said (Followed g) after kept e = e
-  answered-said (Refused refusal) after kept e = e
-
-  call-said :
-      (a : Admission) (kept : VirtualLocalTime) (length : ℕ) →
-      confirmCallAs a d kept t counter length .answer ≡ Followed f → confirmOf d t counter .answer ≡ Followed f
-  call-said (not-admitted refusal) kept length e = cc
-  call-said Admitted kept length e =
-      room-said (confirmOf d t counter .answer) length
-      (answered-said (withRoom (confirmOf d t counter .answer) length) (confirmOf d t counter .domain) kept e)
+  step-fits : (room : Bool) → OpenBelow (d .sending) → confirmOf d t counter room .answer ≡ Followed f → FupFits f
+  step-fits room below =
+      by-follow Fits (d .settings .«confirmation_time») (d .sending) t counter room (refused-fits NoOpenSync)
+      (refused-fits NoRoom) (λ from at told many. refused-fits Ovs)
+      (λ from at told few has-room.
+      with-fits (ovsOf from at t) (wholeOf from at t .1) at (subst OpenBelow (told .held) below) (omega (arith, few))
+      (omega arith))
 
   call-fits :
       (kept : VirtualLocalTime) (asked length : ℕ) → OpenBelow (d .sending) →
       confirmCallOf d kept asked t counter length .answer ≡ Followed f → FupFits f
-  call-fits kept asked length o e =
-      follow-fits (d .settings .«confirmation_time») (d .sending) o
-      (call-said (admittedOf kept t (d .number) (d .settings .role) asked master) kept length e)
+  call-fits kept asked length below =
+      by-admission (λ (a : Admission). confirmCallAs a d kept t counter length .answer ≡ Followed f → FupFits f)
+      kept t (d .number) (d .settings .role) asked master (λ tested. step-fits (leb 8 length) below)
+      (refused-fits Reading) (refused-fits NoDomain)
 
 pub fup-read-back :
     (n : Node) (domain : ℕ) (t : VirtualLocalTime) (counter : ℕ) (out : List ℕ) (f : Fup) →

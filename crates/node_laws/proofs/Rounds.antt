@@ -17,7 +17,7 @@ use lib.Dec.{ltb, eqb}
 use lib.ListN.{length, set, length-set}
 use lib.Seq.{getD-set-same, getD-set-other}
 use borrow.Author.Tests.{ltb-true, eqb-true, eqb-false}
-use Rattle.promise.proofs.Laws.{either}
+use Rattle.promise.proofs.Tests.{either, either-told}
 use Rattle.clock.specs.declared.reading.VirtualLocalTime.{VirtualLocalTime}
 use Rattle.frame.specs.declared.data_ids.DataIds.{DataIds}
 use Rattle.domain.specs.declared.Domain.{Domain}
@@ -29,7 +29,6 @@ use Rattle.domain.specs.Records.{recordAt}
 use Rattle.round.specs.Turn.{turnOf, nextAfter}
 use Rattle.round.specs.Round.{framesBy, sentAfter, goes, roundOf}
 use Rattle.node_laws.specs.Good.{RecordGood}
-use Rattle.node_laws.proofs.Told.{either-told}
 use Rattle.node_laws.proofs.Later.{later}
 use Rattle.node_laws.proofs.Master.{send-good}
 

@@ -1,19 +1,15 @@
 -- A frame call on one record. No contract cites this file.
 --   frame-good    it leaves a good record good, at the reading kept after it
---   frame-kept    which is no earlier than the one before
---   frame-range   and in range if that one was
+--   frame-kept    which is no earlier than the one before, and in range if that one was
 -- Assumes nothing.
 use Prim.Native.Nat.{ℕ, zero, suc, _≤_, _<_}
 use mathlib.Core.Path.{_≡_, refl, sym, subst}
-use mathlib.Core.Bool.{true}
 use mathlib.Core.List.{List, [], _∷_}
 use native.Mathlib.Omega.{arith}
-use borrow.Author.Tests.{leb-true, not-false}
 use lib.Dec.{eqb}
 use lib.ListN.{length, getD}
-use Rattle.promise.proofs.Laws.{either}
+use Rattle.promise.proofs.Tests.{either, either-told, both}
 use Rattle.clock.specs.declared.reading.VirtualLocalTime.{VirtualLocalTime}
-use Rattle.clock.specs.declared.base.TimeBase.{TimeBase}
 use Rattle.clock.specs.declared.base.Held.{Held}
 use Rattle.clock.specs.declared.base.Held.the-variants.{Unset, Set}
 use Rattle.frame.specs.declared.types.FrameType.{FrameType}
@@ -35,26 +31,28 @@ use Rattle.frame_read.specs.Read.{wordOf, valuesOf, readOf}
 use Rattle.frame_check.specs.Check.{isTaken}
 use Rattle.refusal.specs.Numbers.{numberOf}
 use Rattle.settings.specs.declared.domain_settings.Role.{Role}
-use Rattle.settings.specs.declared.domain_settings.Role.the-variants.{Absent, Slave, Master}
+use Rattle.settings.specs.declared.domain_settings.Role.the-variants.{Slave}
 use Rattle.admission.specs.declared.Needed.the-variants.{Slave as slave}
 use Rattle.admission.specs.declared.frames.FrameAdmission.{FrameAdmission}
 use Rattle.admission.specs.declared.frames.FrameAdmission.the-variants.{Admitted, Refused}
 use Rattle.admission.specs.Reading.{isGoodReading}
 use Rattle.admission.specs.Admission.{isIn, isFor}
+use Rattle.admission.proofs.Laws.{good-reading, slave-admitted}
 use Rattle.frame.specs.Values.{domainIn}
 use Rattle.admission.specs.FrameAdmission.{readFor, frameAdmitted}
 use Rattle.domain.specs.declared.Domain.{Domain}
 use Rattle.domain.specs.declared.Pair.{Pair}
 use Rattle.domain.specs.declared.Pairing.{Pairing}
-use Rattle.domain.specs.declared.Pairing.the-variants.{Waiting, Open}
 use Rattle.domain.specs.declared.LastSync.{LastSync}
 use Rattle.domain.specs.declared.LastSync.the-variants.{Seen}
 use Rattle.domain.specs.declared.Leap.{Leap}
 use Rattle.slave_pair.specs.declared.joining.Joined.{Joined}
 use Rattle.slave_pair.specs.declared.joining.Joined.the-variants.{With, Refused as not-joined}
 use Rattle.slave_answer.specs.Answer.{frameNumber}
-use Rattle.slave_pair.specs.Join.{isOld, isOther, isAbove, joinedOf}
+use Rattle.slave_pair.specs.Join.{joinedOf}
+use Rattle.slave_pair.proofs.Laws.{by-joined}
 use Rattle.slave_update.specs.Update.{newBase, updateOf}
+use Rattle.slave_update.proofs.Laws.{update-taken}
 use Rattle.slave_answer.specs.declared.FrameStep.{FrameStep}
 use Rattle.slave_sync.specs.Sync.{withPair, takesSync, syncOf}
 use Rattle.slave_fup.specs.Fup.{updatedOf, fupAs}
@@ -72,8 +70,7 @@ use Rattle.node_laws.specs.Good.{
   RoleGood,
   RecordGood,
 }
-use Rattle.node_laws.proofs.Told.{either-told, both}
-use Rattle.node_laws.proofs.Later.{later}
+use Rattle.node_laws.proofs.Later.{later, Grows, kept-stays}
 
 -- ---- what the bytes of a frame carry
 
@@ -111,11 +108,6 @@ abbrev AdmittedWith : (Frame → Type 0) → FrameAdmission → Type 0
 AdmittedWith P (Refused refusal) = Unit {0}
 AdmittedWith P (Admitted values) = P values
 
-is-slave : (r : Role) → isIn r slave ≡ true → r ≡ Slave
-is-slave Absent e = cc
-is-slave Slave e = refl
-is-slave Master e = cc
-
 abbrev ForSlave : Role → Frame → Type 0
 ForSlave role values = (role ≡ Slave) × Carried values
 
@@ -124,14 +116,11 @@ read-for LengthNot8 own role h = tt
 read-for NoSuchType own role h = tt
 read-for (Values values) own role h =
     either-told (AdmittedWith (ForSlave role)) (isFor own role (domainIn values) slave)
-    (λ e. (is-slave role (both (eqb (domainIn values) own) (isIn role slave) e .1), h)) (λ e. tt)
+    (λ e. (slave-admitted role (both (eqb (domainIn values) own) (isIn role slave) e .1), h)) (λ e. tt)
 
 module _ (kept t : VirtualLocalTime) where
   abbrev Onward : Type 0
   Onward = (kept .0 ≤ t .0) × (t .0 ≤ 1000000000000000000)
-
-  onward : isGoodReading kept t ≡ true → Onward
-  onward e = let h = both _ _ e in (leb-true _ _ (h .1), leb-true _ _ (h .0))
 
   always : {P : Type 0} (a : FrameAdmission) → P → AdmittedWith (λ values. P) a
   always (Refused refusal) p = tt
@@ -142,7 +131,7 @@ module _ (kept t : VirtualLocalTime) where
       AdmittedWith (λ values. Onward) (frameAdmitted kept t own role bytes)
   admitted-onward own role bytes =
       either-told (AdmittedWith (λ values. Onward)) (isGoodReading kept t)
-      (λ e. always (readFor (readOf bytes) own role) (onward e)) (λ e. tt)
+      (λ e. always (readFor (readOf bytes) own role) (good-reading kept t e)) (λ e. tt)
 
   admitted-slave :
       (own : ℕ) (role : Role) (bytes : List ℕ) → AreBytes bytes →
@@ -186,12 +175,9 @@ JoinedWith last f (With p) =
 joined :
     (most : ℕ) (last : LastSync) (pairing : Pairing) (t : VirtualLocalTime) (f : Fup) → PairWithin last pairing →
     JoinedWith last f (joinedOf most pairing t f)
-joined most last Waiting t f h = tt
-joined most last (Open p) t f h =
-    let P = JoinedWith last f in
-    either P (isOld most p t) tt
-    (either P (isOther p f) tt
-    (either-told P (isAbove f) (λ e. tt) (λ e. (h .0, h .1, leb-true _ _ (not-false _ e)))))
+joined most last pairing t f h =
+    by-joined (JoinedWith last f) most pairing t f tt tt tt
+    (λ p told. let w = subst (PairWithin last) (told .held) h in (w .0, w .1, told .in-range))
 
 module _ (d : Domain) (t : VirtualLocalTime) (p : Pair) (f : Fup) (leap : Leap)
     (j : JoinedWith (d .last) f (With p)) where
@@ -214,10 +200,6 @@ module _ (d : Domain) (t : VirtualLocalTime) (p : Pair) (f : Fup) (leap : Leap)
       }
 
 -- ---- the step
-
-number-taken : (future past : ℕ) (b : Held) (new : TimeBase) → frameNumber (updateOf future past b new .answer) ≡ 0
-number-taken future past Unset new = refl
-number-taken future past (Set old) new = refl
 
 module _ (i : ℕ) (kept t : VirtualLocalTime) (d : Domain) (g : RecordGood i kept d) where
   abbrev StepGood : FrameStep → Type 0
@@ -263,7 +245,7 @@ module _ (i : ℕ) (kept t : VirtualLocalTime) (d : Domain) (g : RecordGood i ke
     fup-as (With p) f o h =
         let u = updateOf (d .settings .«future_threshold») (d .settings .«past_threshold») (d .base) (newBase p f) in
         subst (λ (n : ℕ). RecordGood i (keptAfter n kept t) (updatedOf d p f (u .leap)))
-        (sym (number-taken _ _ (d .base) (newBase p f))) (taken p f (u .leap) o h)
+        (sym (update-taken _ _ (d .base) (newBase p f))) (taken p f (u .leap) o h)
 
     kind-step : (values : Frame) → Carried values → StepGood (kindOf d t values)
     kind-step (sync s) c = sync-step s c
@@ -295,23 +277,14 @@ frame-good i kept t bytes d h g =
 -- ---- the kept reading
 
 module _ (kept t : VirtualLocalTime) (bytes : List ℕ) (d : Domain) where
-  abbrev KeptOk : VirtualLocalTime → Type 0
-  KeptOk k = (kept .0 ≤ k .0) × (kept .0 ≤ 1000000000000000000 → k .0 ≤ 1000000000000000000)
-
   call-kept :
       (a : FrameAdmission) → AdmittedWith (λ values. Onward kept t) a →
-      KeptOk (frameCallAs a d kept t bytes .kept)
-  call-kept (Refused refusal) o = (omega arith, λ h. h)
+      Grows kept (frameCallAs a d kept t bytes .kept)
+  call-kept (Refused refusal) o = kept-stays kept
   call-kept (Admitted values) o =
-      either KeptOk (eqb (frameNumber (frameOf d t bytes values .answer)) 0) (o .0, λ h. o .1) (omega arith, λ h. h)
+      either (Grows kept) (eqb (frameNumber (frameOf d t bytes values .answer)) 0) (o .0, λ h. o .1) (kept-stays kept)
 
-  call-ok : KeptOk (frameCallOf d kept t bytes .kept)
-  call-ok =
+  pub frame-kept : Grows kept (frameCallOf d kept t bytes .kept)
+  frame-kept =
       call-kept (frameAdmitted kept t (d .number) (d .settings .role) bytes)
       (admitted-onward kept t (d .number) (d .settings .role) bytes)
-
-  pub frame-kept : kept .0 ≤ frameCallOf d kept t bytes .kept .0
-  frame-kept = call-ok .0
-
-  pub frame-range : kept .0 ≤ 1000000000000000000 → frameCallOf d kept t bytes .kept .0 ≤ 1000000000000000000
-  frame-range = call-ok .1

@@ -7,7 +7,7 @@ use mathlib.Core.Bool.{Bool}
 use mathlib.Core.List.{List, [], _∷_}
 use lib.Dec.{leb, ltb}
 use lib.ListN.{length, set as put}
-use Rattle.promise.proofs.Laws.{either}
+use Rattle.promise.proofs.Tests.{either}
 use Rattle.clock.specs.declared.reading.VirtualLocalTime.{VirtualLocalTime}
 use Rattle.frame.specs.declared.values.Fup.{Fup}
 use Rattle.frame.specs.declared.values.Frame.{Frame}
@@ -37,12 +37,10 @@ use Rattle.master_send.specs.Send.{dueIn, sendAs}
 use Rattle.master_follow.specs.declared.Follow.{Follow}
 use Rattle.master_follow.specs.declared.Follow.the-variants.{With as following, Refused as not-following}
 use Rattle.master_follow.specs.Follow.{followOf}
-use Rattle.master_confirm.specs.declared.ConfirmAnswer.{ConfirmAnswer}
-use Rattle.master_confirm.specs.declared.ConfirmAnswer.the-variants.{Followed, Refused as not-followed}
-use Rattle.master_confirm.specs.Confirm.{confirmAs, confirmOf}
+use Rattle.master_confirm.specs.Confirm.{confirmAs}
 use Rattle.call_frame.specs.FrameCall.{frameCallAs}
 use Rattle.call_set.specs.SetCall.{setCallAs}
-use Rattle.call_confirm.specs.ConfirmCall.{withRoom, confirmAnswered, confirmCallAs}
+use Rattle.call_confirm.specs.ConfirmCall.{confirmCallAs}
 use Rattle.domain.specs.Records.{recordAt}
 use Rattle.round.specs.Round.{sentAfter, goes}
 use Rattle.round.specs.Turn.{turnOf, nextAfter}
@@ -89,18 +87,12 @@ module _ (d : Domain) (kept t : VirtualLocalTime) where
   followed-stays (following ovs nanoseconds at) counter h = h
   followed-stays (not-following refusal) counter h = h
 
-  answered-stays :
-      (a : ConfirmAnswer) (after : Domain) → Stays d after → Stays d (confirmAnswered a after d kept t .domain)
-  answered-stays (Followed f) after s = s
-  answered-stays (not-followed refusal) after s = λ h. h
-
   confirm-stays :
       (a : Admission) (counter : ℕ) (out : List ℕ) →
       Stays d (confirmCallAs a d kept t counter (length out) .domain)
   confirm-stays (Refused refusal) counter out = λ h. h
   confirm-stays Admitted counter out =
-      answered-stays (withRoom (confirmOf d t counter .answer) (length out)) (confirmOf d t counter .domain)
-      (followed-stays (followOf (d .settings .«confirmation_time») (d .sending) t counter) counter)
+      followed-stays (followOf (d .settings .«confirmation_time») (d .sending) t counter (leb 8 (length out))) counter
 
 -- ---- a turn
 

@@ -13,6 +13,7 @@ use mathlib.Core.Bool.{Bool, true, _&&_}
 use mathlib.Core.List.{List, [], _∷_}
 use lib.Dec.{ltb}
 use borrow.Author.Tests.{ltb-true}
+use Rattle.promise.proofs.Tests.{both}
 use Rattle.clock.specs.declared.base.Held.the-variants.{Set}
 use Rattle.settings.specs.declared.domain_settings.Role.the-variants.{Slave}
 use Rattle.domain.specs.Records.{recordAt}
@@ -23,7 +24,6 @@ use Rattle.node_call.specs.Calls.{Call, frame, read, set, cycle, confirm, nodeA
 use Rattle.node_laws.specs.Reachable.{AreBytes, IsCall, Reachable, new, after}
 use Rattle.bench_settings.specs.Bench.{benchWith}
 use Rattle.node_laws.specs.Cases.{benchCalls}
-use Rattle.node_laws.proofs.Told.{both}
 
 abbrev pub AreCalls : List Call → Type 0
 AreCalls [] = Unit {0}

@@ -2,21 +2,19 @@
 --   refusal-keeps-fup   a refused FUP leaves the record as it was
 --   fup-closes          a FUP that is not refused leaves no pair open
 -- Assumes nothing.
-use Prim.Native.Nat.{ℕ}
 use mathlib.Core.Path.{_≡_, refl}
 use native.Mathlib.Omega.{arith}
-use Rattle.promise.proofs.Laws.{either}
 use Rattle.clock.specs.declared.reading.VirtualLocalTime.{VirtualLocalTime}
 use Rattle.clock.specs.declared.base.Held.{Held}
 use Rattle.clock.specs.declared.base.Held.the-variants.{Unset, Set}
 use Rattle.frame.specs.declared.values.Fup.{Fup}
 use Rattle.domain.specs.declared.Domain.{Domain}
-use Rattle.domain.specs.declared.Pairing.{Pairing}
-use Rattle.domain.specs.declared.Pairing.the-variants.{Waiting, Open}
+use Rattle.domain.specs.declared.Pairing.the-variants.{Waiting}
 use Rattle.slave_pair.specs.declared.joining.Joined.{Joined}
 use Rattle.slave_pair.specs.declared.joining.Joined.the-variants.{With, Refused}
 use Rattle.slave_answer.specs.Answer.{frameNumber}
-use Rattle.slave_pair.specs.Join.{isOld, isOther, isAbove, joinedOf}
+use Rattle.slave_pair.specs.Join.{joinedOf}
+use Rattle.slave_pair.proofs.Laws.{by-joined}
 use Rattle.slave_update.specs.Update.{newBase, updateOf}
 use Rattle.slave_fup.specs.Fup.{takenBy, fupAs, fupOf}
 use Rattle.slave_answer.specs.Answer.{Keeps}
@@ -42,17 +40,8 @@ refusal-keeps-fup d t f = as-keeps (joinedOf (d .settings .«follow_up_time») (
 pub fup-closes :
     (d : Domain) (t : VirtualLocalTime) (f : Fup) → frameNumber (fupOf d t f .answer) ≡ 0 →
     fupOf d t f .domain .pairing ≡ Waiting
-fup-closes d t f = closes (d .pairing)
-  where
-    l : ℕ
-    l = d .settings .«follow_up_time»
-
-    Closed : Joined → Type 0
-    Closed j = frameNumber (fupAs j d f .answer) ≡ 0 → fupAs j d f .domain .pairing ≡ Waiting
-
-    closes : (p : Pairing) → Closed (joinedOf l p t f)
-    closes Waiting = λ e. absurd (omega arith)
-    closes (Open p) =
-        either Closed (isOld l p t) (λ e. absurd (omega arith))
-        (either Closed (isOther p f) (λ e. absurd (omega arith))
-        (either Closed (isAbove f) (λ e. absurd (omega arith)) (λ e. refl)))
+fup-closes d t f =
+    by-joined
+    (λ (j : Joined). frameNumber (fupAs j d f .answer) ≡ 0 → fupAs j d f .domain .pairing ≡ Waiting)
+    (d .settings .«follow_up_time») (d .pairing) t f (λ e. absurd (omega arith)) (λ e. absurd (omega arith))
+    (λ e. absurd (omega arith)) (λ p told e. refl)

@@ -1,2 +1,3 @@
 -- The laws of `slave_pair`.
+pub mod Laws
 pub mod Only

@@ -3,7 +3,7 @@
 --   sync-keeps-base      a SYNC does not move the base, taken or refused
 -- Assumes nothing.
 use mathlib.Core.Path.{_≡_, refl}
-use Rattle.promise.proofs.Laws.{either}
+use Rattle.promise.proofs.Tests.{either}
 use Rattle.clock.specs.declared.reading.VirtualLocalTime.{VirtualLocalTime}
 use Rattle.frame.specs.declared.values.Sync.{Sync}
 use Rattle.domain.specs.declared.Domain.{Domain}

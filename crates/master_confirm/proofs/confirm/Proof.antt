@@ -1,7 +1,7 @@
 -- `master_confirm::confirm` meets its contract: each arm knows what `follow_up` found, and
 -- `protection` gives its part.
 -- Assumes nothing.
-use mathlib.Core.Path.{_≡_, sym, ap, _∙_}
+use mathlib.Core.Path.{_≡_, sym}
 use Rattle.master_follow.specs.declared.Follow.{Follow}
 use Rattle.master_follow.specs.Follow.{followOf}
 use Rattle.master_confirm.specs.Confirm.{confirmAs}
@@ -11,12 +11,10 @@ use Rattle.master_confirm.proofs.confirm.Tie as tie
 
 as-found :
     (c : tie.After-follow-up) (f : Follow) → c .follow-up .result ≡ f → let a = c .before .before .args in
-    confirmAs (followOf (a .domain .settings .«confirmation_time») (a .domain .sending) (a .t) (a .counter))
+    confirmAs (followOf (a .domain .settings .«confirmation_time») (a .domain .sending) (a .t) (a .counter) (a .room))
     (a .domain) (a .counter)
     ≡ confirmAs f (a .domain) (a .counter)
-as-found c f e =
-    let a = c .before .before .args in
-    ap (λ (f : Follow). confirmAs f (a .domain) (a .counter)) (sym (c .follow-up .ensures) ∙ e)
+as-found c f e = rw (← c .follow-up .ensures, e)
 
 follow-up-requires : tie.Need-follow-up-requires
 follow-up-requires c κs = search needs

@@ -1,7 +1,7 @@
 -- `master_follow::follow_up` meets its contract: at each return the arm and the tests that led
 -- there decide the definition's.
 -- Assumes nothing.
-use borrow.Author.Tests.{le-leb, lt-leb, eq-eqb, ne-eqb}
+use borrow.Author.Tests.{le-leb, lt-leb, eq-eqb, ne-eqb, not-true, not-false}
 use borrow.Author.Needs.{needs}
 use Rattle.master_follow.proofs.follow_up.Statement.{statement}
 use Rattle.master_follow.proofs.follow_up.Tie as tie
@@ -27,8 +27,20 @@ returns-2 c =
       lt-leb _ _ (rw (c .before .since .ensures) at (c .if2 .taken)),
     )
 
-cast-t13 : tie.Need-cast-t13
-cast-t13 c = search needs
+returns-3 : tie.Need-returns-3
+returns-3 c =
+    let young = c .before in
+    let at = young .before in
+    let same = at .before in
+    rw (
+      same .before .before .sending .given .1,
+      eq-eqb _ _ (same .if1 .left),
+      le-leb _ _ (rw (at .since .ensures) at (young .if2 .left)),
+      not-true (same .before .before .before .before .args .room) (c .if3 .taken),
+    )
+
+cast-t14 : tie.Need-cast-t14
+cast-t14 c = search needs
 
 follow-from-requires : tie.Need-follow-from-requires
 follow-from-requires c κs = search needs
@@ -36,22 +48,25 @@ follow-from-requires c κs = search needs
 enum-told-2 : tie.Need-enum-told-2
 enum-told-2 c = search needs
 
-returns-3 : tie.Need-returns-3
-returns-3 c = rw (c .enum-told .given .1)
-
 returns-4 : tie.Need-returns-4
-returns-4 c =
-    let at = c .before .before in
+returns-4 c = rw (c .enum-told .given .1)
+
+returns-5 : tie.Need-returns-5
+returns-5 c =
+    let roomy = c .before in
+    let young = roomy .before in
+    let at = young .before in
     let same = at .before in
     rw (
       same .before .before .sending .given .1,
       eq-eqb _ _ (same .if1 .left),
-      le-leb _ _ (rw (at .since .ensures) at (c .before .if2 .left)),
+      le-leb _ _ (rw (at .since .ensures) at (young .if2 .left)),
+      not-false (same .before .before .before .before .args .room) (roomy .if3 .left),
     )
     (c .follow-from .ensures)
 
-returns-5 : tie.Need-returns-5
-returns-5 c = rw (c .enum-told2 .given .1)
+returns-6 : tie.Need-returns-6
+returns-6 c = rw (c .enum-told2 .given .1)
 
 pub follow-up-spec : {M : Type 1} → statement M
 follow-up-spec =
@@ -62,9 +77,10 @@ follow-up-spec =
     returns
     since-requires
     returns-2
-    cast-t13
+    returns-3
+    cast-t14
     follow-from-requires
     enum-told-2
-    returns-3
     returns-4
-    returns-5)
+    returns-5
+    returns-6)

@@ -5,8 +5,9 @@
 -- Assumes nothing.
 use Prim.Native.Nat.{_≤_, _<_}
 use mathlib.Core.Path.{_≡_, refl}
-use mathlib.Core.Bool.{Bool, true, false, _&&_}
+use mathlib.Core.Bool.{true}
 use borrow.Author.Tests.{leb-true, ltb-true}
+use Rattle.promise.proofs.Tests.{both}
 use Rattle.settings.specs.declared.domain_settings.DomainSettings.{DomainSettings}
 use Rattle.settings.specs.declared.domain_settings.Role.{Role}
 use Rattle.settings.specs.declared.domain_settings.Role.the-variants.{Absent, Slave, Master}
@@ -22,10 +23,6 @@ pub held-good : (s : DomainSettings) → isGood (heldOf s) ≡ isGood s
 held-good s = good-as (s .role) s
 
 -- ---- what the conjunctions say
-
-both : (a b : Bool) → (a && b) ≡ true → (a ≡ true) × (b ≡ true)
-both true b e = (refl, e)
-both false b e = (e, cc)
 
 pub record SlaveRange (s : DomainSettings) : Type 0 where
   pub jump : (1 ≤ s .«jump_width») × (s .«jump_width» ≤ 15)

@@ -1,6 +1,7 @@
 -- What is known of a call that was admitted. No contract cites this file.
 --   good-reading     a good reading is in range and not before the kept one
---   by-admission     what an admission picks: admitted, with what was tested, or refused
+--   by-admission     what an admission is: admitted, or refused by 1 or 4; `Tested` is told where it is admitted
+--   slave-admitted   a record admitted as a slave's is one
 --   master-admitted  a record admitted as a master's is one
 -- Assumes nothing.
 use Prim.Native.Nat.{ℕ, _≤_}
@@ -8,18 +9,18 @@ use mathlib.Core.Path.{_≡_, refl}
 use mathlib.Core.Bool.{true}
 use lib.Dec.{leb, eqb}
 use borrow.Author.Tests.{leb-true}
-use Rattle.node_laws.proofs.Told.{either-told, both}
+use Rattle.promise.proofs.Tests.{either-told, both}
 use Rattle.clock.specs.declared.reading.VirtualLocalTime.{VirtualLocalTime}
 use Rattle.clock.specs.Reading.{isReading}
 use Rattle.refusal.specs.declared.Refusal.the-variants.{Reading, Domain as domain}
 use Rattle.settings.specs.declared.domain_settings.Role.{Role}
 use Rattle.settings.specs.declared.domain_settings.Role.the-variants.{Absent, Slave, Master}
 use Rattle.admission.specs.declared.Needed.{Needed}
-use Rattle.admission.specs.declared.Needed.the-variants.{Master as master}
+use Rattle.admission.specs.declared.Needed.the-variants.{Slave as slave, Master as master}
 use Rattle.admission.specs.declared.Admission.{Admission}
 use Rattle.admission.specs.declared.Admission.the-variants.{Admitted, Refused}
 use Rattle.admission.specs.Admission.{isIn, isFor, admittedOf}
 use Rattle.admission.specs.Reading.{isGoodReading}
 
 -- ---- the tests of an admission
 
@@ -51,6 +52,11 @@ by-admission P kept t own role asked needed p q r =
     }))
     (λ e. r))
     (λ e. q)
+
+pub slave-admitted : (role : Role) → isIn role slave ≡ true → role ≡ Slave
+slave-admitted Absent e = cc
+slave-admitted Slave e = refl
+slave-admitted Master e = cc
 
 pub master-admitted : (role : Role) → isIn role master ≡ true → role ≡ Master
 master-admitted Absent e = cc

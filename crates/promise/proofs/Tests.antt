@@ -1,9 +1,14 @@
--- Tests, and what they tell. No contract cites this file.
---   either-told   what holds of each branch, where the test says so, holds of what the test picks
+-- Laws of tests, which proofs share. No contract cites this file.
+--   either        what holds of both branches of a test holds of what the test picks
+--   either-told   so does what holds of each branch where the test says so
 --   both          two tests that hold together hold each
 -- Assumes nothing.
 use mathlib.Core.Path.{_≡_, refl}
 use mathlib.Core.Bool.{Bool, true, false, cond, _&&_}
+
+pub either : {A : Type 0} (P : A → Type 0) (b : Bool) {x y : A} → P x → P y → P (cond b x y)
+either P true p q = p
+either P false p q = q
 
 pub either-told :
     {A : Type 0} (P : A → Type 0) (b : Bool) {x y : A} → (b ≡ true → P x) → (b ≡ false → P y) → P (cond b x y)
