@@ -176,6 +176,11 @@ reads bytes f = go (eqb (length bytes) 8) refl
     go true w e = (eqb-true _ 8 w, e)
     go false w e = let no : _≡_ {A = ℕ} 0 1 = cc in absurd (omega arith)
 
+pub byte-below : (bytes : List ℕ) (i : ℕ) → AreBytes bytes → getD bytes i 0 < 256
+byte-below [] i h = omega arith
+byte-below (b ∷ rest) zero h = h .0
+byte-below (b ∷ rest) (suc i) h = byte-below rest i (h .1)
+
 abbrev WriteBack : DataIds → Frame → List ℕ → Type 0
 WriteBack ids f bytes =
     AreBytes bytes → readOf bytes ≡ Values f →
@@ -184,14 +189,15 @@ WriteBack ids f bytes =
     bytesOf ids f ≡ bytes
 
 pub write-back : (ids : DataIds) (f : Frame) (bytes : List ℕ) → WriteBack ids f bytes
-write-back ids f bytes small e =
+write-back ids f bytes are e =
     let b : ℕ → ℕ = λ k. getD bytes k 0 in
+    let small : (k : ℕ) → b k < 256 = λ k. byte-below bytes k are in
     let all : listOf b 8 ≡ bytes = ap (listOf b) (sym (reads bytes f e .0)) ∙ values-all bytes in
     subst (WriteBack ids f) all
     (λ small′ e′.
     back ids (b 0) (b 1) (b 2) (b 3) (b 4) (b 5) (b 6) (b 7) (small 2) (small 4) (small 5) (small 6) (small 7)
     (typeOf (b 0)) (type-is (b 0)) f (reads (listOf b 8) f e′ .1))
-    small e
+    are e
 
 -- ---- good-back
 

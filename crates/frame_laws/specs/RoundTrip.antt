@@ -3,7 +3,7 @@
 -- What the two laws of the round trip ask of values and of bytes. Assumes nothing.
 use Prim.Native.Nat.{ℕ, _^_, _<_}
 use mathlib.Core.Bool.{Bool, true}
-use mathlib.Core.List.{List}
+use mathlib.Core.List.{List, [], _∷_}
 use lib.Dec.{ltb}
 use lib.ListN.{getD}
 use Rattle.frame.specs.declared.data_ids.DataIds.{DataIds}
@@ -48,7 +48,8 @@ takesKind mode Secured = takesSecured mode true
 
 -- ---- bytes
 abbrev pub AreBytes : List ℕ → Type 0
-AreBytes bytes = (i : ℕ) → getD bytes i 0 < 256
+AreBytes [] = Unit {0}
+AreBytes (byte ∷ rest) = (byte < 256) × AreBytes rest
 
 -- ---- "zero reserved bits"
 abbrev pub zeroReserved : FrameType → List ℕ → Bool

@@ -6,6 +6,7 @@ use mathlib.Core.Path.{_≡_, ap, _∙_}
 use mathlib.Core.List.{List, [], _∷_}
 use native.Mathlib.Omega.{arith}
 use lib.ListN.{length, getD}
+use Rattle.settings.specs.Node.{places}
 use Rattle.settings.specs.declared.domain_settings.DomainSettings.{DomainSettings}
 use Rattle.settings.specs.Domain.{absentHeld}
 use Rattle.settings.specs.declared.node_settings.NodeSettings.{NodeSettings}
@@ -25,7 +26,7 @@ fresh-at number (x ∷ rest) zero i h e = ap (λ (n : ℕ). freshOf n x) (omega 
 fresh-at number (x ∷ rest) (suc at) i h e = fresh-at (number + 1) rest at i (omega arith) (omega arith)
 
 pub fresh-record :
-    (s : NodeSettings) (i : ℕ) → IsSettings s → judgedOf s ≡ Good → i < 16 →
+    (s : NodeSettings) (i : ℕ) → IsSettings s → judgedOf s ≡ Good → i < places →
     recordAt (newOf s .node .domains) i ≡ freshOf i (getD (s .domains) i absentHeld)
 fresh-record s i sixteen good h =
     ap (λ (v : Verdict). recordAt (newAs v s .node .domains) i) good

@@ -11,6 +11,9 @@ use lib.Dec.{leb, ltb, eqb}
 use lib.ListN.{length, getD, take, drop, set as put}
 use lib.Seq.{set-getD, take-at, drop-at}
 use borrow.Author.Tests.{leb-true, eq-eqb, ne-eqb}
+use Rattle.settings.specs.Node.{places}
+use Rattle.frame.specs.ByteTwo.{counters}
+use Rattle.round.specs.Turn.{nextPlace}
 use Rattle.promise.proofs.Tests.{either, either-told}
 use Rattle.clock.specs.declared.reading.VirtualLocalTime.{VirtualLocalTime}
 use Rattle.clock.specs.declared.time.GlobalTime.{GlobalTime}
@@ -62,7 +65,8 @@ use Rattle.node.specs.CycleAnswer.{cycleCount}
 use Rattle.node.specs.Cycle.{isRoomFor, goneFrom, nodeCycleOf, cycleBytes}
 use Rattle.node_call.specs.Calls.{Call, frame, read, set, cycle, confirm, nodeAfter, follows as answers, answerTo}
 use Rattle.node_laws.specs.Good.{SentWithin, RoleGood, Good}
-use Rattle.node_laws.specs.Back.{Each, joined, IsEight}
+use Rattle.round.specs.FirstDue.{Each}
+use Rattle.node_laws.specs.Back.{joined, IsEight}
 use Rattle.node_laws.proofs.Rounds.{AllGood, all-later, stored-good, turn-good, count-bound}
 use Rattle.node_laws.proofs.Cycles.{round-each, pasted-whole}
 use Rattle.history.specs.History.{Sent, readingOf, eights, givenBy, noted}
@@ -71,7 +75,7 @@ use Rattle.history.proofs.Row.{syncValues, fupValues}
 
 -- ---- the frames of a record at t: its SYNC of base b, and the FUP of what it sent at `at` with time `from`
 abbrev pub syncOf : VirtualLocalTime → Domain → TimeBase → Frame
-syncOf t d b = sync (syncValues (d .settings) (d .number) (d .«next_counter» % 16) (timeAt b t .0))
+syncOf t d b = sync (syncValues (d .settings) (d .number) (d .«next_counter» % counters) (timeAt b t .0))
 
 abbrev pub fupOf : VirtualLocalTime → Domain → (counter : ℕ) (from : GlobalTime) (at : VirtualLocalTime) → Frame
 fupOf t d counter from at =
@@ -110,7 +114,7 @@ byte-two :
 byte-two plain secured (Plain user) two three word id = refl
 byte-two plain secured Secured two three word id = refl
 
-addressed : (ids : DataIds) (f : Frame) → domainIn f < 16 → addressedBy (bytesOf ids f) ≡ domainIn f
+addressed : (ids : DataIds) (f : Frame) → domainIn f < places → addressedBy (bytesOf ids f) ≡ domainIn f
 addressed ids (sync s) h =
     omega (
       arith,
@@ -136,7 +140,7 @@ eights-back (f ∷ fs) rest each =
     ∙ eights-back fs rest (each .1))
     i
 
-module _ (i : ℕ) (below : i < 16) (t : VirtualLocalTime) (g : GlobalTime) where
+module _ (i : ℕ) (below : i < places) (t : VirtualLocalTime) (g : GlobalTime) where
   -- ---- a frame of the domain is noted, another's is not
 
   one-of :
@@ -145,7 +149,7 @@ module _ (i : ℕ) (below : i < 16) (t : VirtualLocalTime) (g : GlobalTime) wher
   one-of ids f rest l e = rw (eq-eqb (addressedBy (bytesOf ids f)) i (addressed ids f (omega arith) ∙ e))
 
   none-of :
-      (ids : DataIds) (f : Frame) (rest : List (List ℕ)) (l : List Sent) → domainIn f < 16 → (domainIn f ≡ i → ⊥) →
+      (ids : DataIds) (f : Frame) (rest : List (List ℕ)) (l : List Sent) → domainIn f < places → (domainIn f ≡ i → ⊥) →
       noted i t g (bytesOf ids f ∷ rest) l ≡ noted i t g rest l
   none-of ids f rest l h e = rw (ne-eqb (addressedBy (bytesOf ids f)) i (λ q. e (sym (addressed ids f h) ∙ q)))
 
@@ -169,7 +173,7 @@ module _ (i : ℕ) (below : i < 16) (t : VirtualLocalTime) (g : GlobalTime) wher
       next
 
   turn-there :
-      (may : Bool) (d : Domain) (rest : List (List ℕ)) (l : List Sent) → d .number < 16 → (d .number ≡ i → ⊥) →
+      (may : Bool) (d : Domain) (rest : List (List ℕ)) (l : List Sent) → d .number < places → (d .number ≡ i → ⊥) →
       noted i t g (framesBy (turnOf may d t .answer) (d .settings .ids) ++ rest) l ≡ noted i t g rest l
   turn-there false d rest l h n = refl
   turn-there true d rest l h n =
@@ -180,7 +184,7 @@ module _ (i : ℕ) (below : i < 16) (t : VirtualLocalTime) (g : GlobalTime) wher
       (λ b told. none-of (d .settings .ids) (syncOf t d b) rest l h n)
 
   goes-moves :
-      (k at sent most : ℕ) (ds : List Domain) (next : ℕ) (l : List Sent) → at < 16 → AllGood t ds →
+      (k at sent most : ℕ) (ds : List Domain) (next : ℕ) (l : List Sent) → at < places → AllGood t ds →
       Moves t g (recordAt ds i) l (recordAt (goes k at sent most t ds next .domains) i)
       (noted i t g (goes k at sent most t ds next .frames) l)
   unfolding goes
@@ -190,7 +194,7 @@ module _ (i : ℕ) (below : i < 16) (t : VirtualLocalTime) (g : GlobalTime) wher
       let s = turnOf (ltb sent most) d t in
       let number = good .records at a .number in
       let gone =
-      goes k ((at + 1) % 16) (sentAfter (s .answer) sent) most t (put ds at (s .domain)) (nextAfter (s .answer) at next)
+      goes k (nextPlace places at) (sentAfter (s .answer) sent) most t (put ds at (s .domain)) (nextAfter (s .answer) at next)
       in
       let e = recordAt (gone .domains) i in
       let m = noted i t g (framesBy (s .answer) (d .settings .ids) ++ gone .frames) l in
@@ -204,7 +208,7 @@ module _ (i : ℕ) (below : i < 16) (t : VirtualLocalTime) (g : GlobalTime) wher
       (λ apart rest.
       rw (turn-there (ltb sent most) d (gone .frames) l (omega (arith, number)) (λ q. apart (sym number ∙ q))) (rest l))
       (λ l.
-      goes-moves k ((at + 1) % 16) (sentAfter (s .answer) sent) most (put ds at (s .domain))
+      goes-moves k (nextPlace places at) (sentAfter (s .answer) sent) most (put ds at (s .domain))
       (nextAfter (s .answer) at next) l (omega arith)
       (stored-good t ds at (s .domain) a good (turn-good (ltb sent most) at t d (good .records at a))))
 
@@ -218,7 +222,7 @@ frame-refused LengthNot8 own role d kept t bytes e = refl
 frame-refused NoSuchType own role d kept t bytes e = refl
 frame-refused (Values values) own role d kept t bytes e = rw (e, and-false (eqb (domainIn values) own))
 
-module _ (n : Node) (good : Good n) (i : ℕ) (below : i < 16) (role : recordAt (n .domains) i .settings .role ≡ Master)
+module _ (n : Node) (good : Good n) (i : ℕ) (below : i < places) (role : recordAt (n .domains) i .settings .role ≡ Master)
     (g : GlobalTime) (l : List Sent) where
   abbrev d : Domain
   d = recordAt (n .domains) i
@@ -279,7 +283,7 @@ module _ (n : Node) (good : Good n) (i : ℕ) (below : i < 16) (role : recordAt 
         either-told CycleMoves (isRoomFor n (length out))
         (λ room.
         rw (found room)
-        (goes-moves i below t g 16 (n .round % 16) 0 (n .«syncs_per_cycle») (n .domains) (n .round) l (omega arith)
+        (goes-moves i below t g places (n .round % places) 0 (n .«syncs_per_cycle») (n .domains) (n .round) l (omega arith)
         (all-later (n .kept) t (n .domains) (good-reading (n .kept) t e .0)
         (record { sixteen = good .sixteen; records = good .records }))))
         (λ e. as-it-was t))
@@ -288,23 +292,23 @@ module _ (n : Node) (good : Good n) (i : ℕ) (below : i < 16) (role : recordAt 
   -- ---- a confirmation, of this domain or another
   module _ (asked : ℕ) (t : VirtualLocalTime) (counter : ℕ) (out : List ℕ) where
     abbrev c : Domain
-    c = recordAt (n .domains) (asked % 16)
+    c = recordAt (n .domains) (asked % places)
 
     abbrev ConfirmMoves : ConfirmCall → Type 0
     ConfirmMoves r =
-        Moves t g d l (recordAt (put (n .domains) (asked % 16) (r .domain)) i)
+        Moves t g d l (recordAt (put (n .domains) (asked % places) (r .domain)) i)
         (noted i t g
         (givenBy (answers (confirmNumber (r .answer)) (confirmBytes (r .answer) (c .settings .ids) out))) l)
 
-    kept-here : Moves t g d l (recordAt (put (n .domains) (asked % 16) c) i) l
+    kept-here : Moves t g d l (recordAt (put (n .domains) (asked % places) c) i) l
     kept-here =
-        unmoved t g d _ l (ap (λ (ds : List Domain). recordAt ds i) (set-getD (n .domains) (asked % 16) _))
+        unmoved t g d _ l (ap (λ (ds : List Domain). recordAt ds i) (set-getD (n .domains) (asked % places) _))
 
     sent-before :
         (from : GlobalTime) (at : VirtualLocalTime) → c .settings .role ≡ Master →
         c .sending ≡ Open counter (from .0) (from .1) at → at .0 ≤ n .kept .0
     sent-before from at is e =
-        let m = subst (λ (r : Role). RoleGood r (n .kept) c) is (good .records (asked % 16) (omega arith) .role) in
+        let m = subst (λ (r : Role). RoleGood r (n .kept) c) is (good .records (asked % places) (omega arith) .role) in
         subst (SentWithin (n .kept) (c .base) (c .«next_counter»)) e (m .sent) .5
 
     abbrev Stepped : Follow → Type 0
@@ -318,10 +322,10 @@ module _ (n : Node) (good : Good n) (i : ℕ) (below : i < 16) (role : recordAt 
         let after = followedOf c counter (ovsOf from at t) (wholeOf from at t .1) at .domain in
         let ids = c .settings .ids in
         let f = fupOf t c counter from at in
-        let number = good .records (asked % 16) (omega arith) .number in
+        let number = good .records (asked % places) (omega arith) .number in
         let m = noted i t g (bytesOf ids f ∷ []) l in
         rw (take-at (bytesOf ids f) (drop 8 out) 8 (bytes-length ids f))
-        (placed (λ (x : Domain). Moves t g d l x m) (n .domains) (asked % 16) i after there
+        (placed (λ (x : Domain). Moves t g d l x m) (n .domains) (asked % places) i after there
         (λ same.
         rw (one-of i below t g ids f [] l (number ∙ same))
         (subst (λ (x : Domain). Moves t g x l after (sentAs t g ids f ∷ l)) (ap (recordAt (n .domains)) same)
@@ -352,7 +356,7 @@ module _ (n : Node) (good : Good n) (i : ℕ) (below : i < 16) (role : recordAt 
       (λ same. rw same (frame-moves t bytes)) (λ apart. as-it-was t)
   master-moves (read asked t) = as-it-was t
   master-moves (set asked t s ns) =
-      placed (λ (x : Domain). Moves t g d l x l) (n .domains) (asked % 16) i _ there
+      placed (λ (x : Domain). Moves t g d l x l) (n .domains) (asked % places) i _ there
       (λ same. rw same (set-moves t asked s ns)) (λ apart. as-it-was t)
   master-moves (cycle t out) = cycle-moves t out
   master-moves (confirm asked t counter out) = confirm-moves asked t counter out

@@ -19,6 +19,7 @@ use native.Mathlib.Nat.{mul-le-mul-right}
 use borrow.Author.Tests.{eqb-true, eqb-false}
 use lib.Dec.{eqb}
 use lib.ListN.{getD}
+use Rattle.settings.specs.Node.{places}
 use Rattle.frame.specs.declared.values.Protection.{Protection}
 use Rattle.frame.specs.declared.values.Protection.the-variants.{Plain, Secured}
 use Rattle.frame.specs.declared.values.Frame.the-variants.{Sync as sync, Fup as fup}
@@ -263,14 +264,14 @@ module _ (m : DomainSettings) (i : ℕ) where
 
   -- ---- the frames are read as the values sent
   pub sync-read :
-      (c : ℕ) (y : Sent) → i < 16 → SyncSent m i c y → readOf (y .bytes) ≡ Values (sync (syncValues m i c (y .time .0)))
+      (c : ℕ) (y : Sent) → i < places → SyncSent m i c y → readOf (y .bytes) ≡ Values (sync (syncValues m i c (y .time .0)))
   sync-read c y h s =
       ap readOf (s .bytes)
       ∙ read-back (m .ids) (sync (syncValues m i c (y .time .0)))
       (record { domain = h; counter = s .small; seconds = omega (arith, s .seconds) })
 
   pub fup-read :
-      (c : ℕ) (y f : Sent) → i < 16 → c < 16 → FupSent m i c y f →
+      (c : ℕ) (y f : Sent) → i < places → c < 16 → FupSent m i c y f →
       readOf (f .bytes)
       ≡ Values (fup (fupValues m i c (ovsOf (y .time) (y .at) (f .at)) (wholeOf (y .time) (y .at) (f .at) .1)))
   fup-read c y f h small s =

@@ -17,6 +17,7 @@ use lib.Dec.{leb, eqb}
 use lib.ListN.{length, getD}
 use lib.Seq.{getD-set-same}
 use borrow.Author.Tests.{eqb-true, le-leb}
+use Rattle.settings.specs.Node.{places}
 use Rattle.promise.proofs.Tests.{either, either-told, both}
 use Rattle.clock.specs.declared.reading.VirtualLocalTime.{VirtualLocalTime}
 use Rattle.clock.specs.Reading.{isReading}
@@ -145,14 +146,14 @@ module _ (P : Domain → Type 0) (n : Node) (i : ℕ) (there : i < length (n .do
       (λ e. old)
   call-does (read domain t) f = old
   call-does (set domain t s ns) f =
-      placed P (n .domains) (domain % 16) i _ there
+      placed P (n .domains) (domain % places) i _ there
       (λ e.
       subst (λ (x : ℕ). P (setCallOf (recordAt (n .domains) x) (n .kept) domain t s ns .domain)) (sym e)
       (subst P (sym (not-set was (n .kept) domain t s ns is)) old))
       (λ e. old)
   call-does (cycle t out) f = subst P (sym (other-domains n (cycle t out) i (rw is refl))) old
   call-does (confirm domain t counter out) f =
-      placed P (n .domains) (domain % 16) i _ there
+      placed P (n .domains) (domain % places) i _ there
       (λ e.
       subst (λ (x : ℕ). P (confirmCallOf (recordAt (n .domains) x) (n .kept) domain t counter (length out) .domain))
       (sym e)
@@ -304,7 +305,7 @@ own-place k l bytes e =
     subst (Says bytes) (heard .reads)
     (either (Says bytes) (eqb (length bytes) 8) (values-say (typeOf (getD bytes 0 0)) bytes) tt)
     in
-    ap (λ (x : ℕ). x % 16) (sym says ∙ heard .domain) ∙ mod-eq-of-lt (l .domain)
+    ap (λ (x : ℕ). x % places) (sym says ∙ heard .domain) ∙ mod-eq-of-lt (l .domain)
 
 -- ---- and stepped by its record at a good reading
 
@@ -390,13 +391,13 @@ call-keeps P n (frame t bytes) old new =
     frame-keeps P (n .kept) t old new (frameAdmitted (n .kept) t (d .number) (d .settings .role) bytes) d bytes
 call-keeps P n (read domain t) old new = old
 call-keeps P n (set domain t s ns) old new =
-    let d = recordAt (n .domains) (domain % 16) in
+    let d = recordAt (n .domains) (domain % places) in
     set-keeps P (n .kept) t old new (admittedOf (n .kept) t (d .number) (d .settings .role) domain master) d s ns
 call-keeps P n (cycle t out) old new =
     let Q : NodeCycle → Type 0 = λ r. P (r .node .kept) in
     either Q (isGoodReading (n .kept) t) (either Q (isRoomFor n (length out)) new old) old
 call-keeps P n (confirm domain t counter out) old new =
-    let d = recordAt (n .domains) (domain % 16) in
+    let d = recordAt (n .domains) (domain % places) in
     confirm-keeps P (n .kept) t old new (admittedOf (n .kept) t (d .number) (d .settings .role) domain master) d counter
     (length out)
 

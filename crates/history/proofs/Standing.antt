@@ -10,6 +10,7 @@ use mathlib.Core.List.{List, [], _∷_}
 use native.Mathlib.Omega.{arith}
 use lib.Dec.{eqb}
 use borrow.Author.Tests.{leb-true}
+use Rattle.frame.specs.ByteTwo.{counters}
 use Rattle.promise.proofs.Tests.{either}
 use Rattle.clock.specs.declared.reading.VirtualLocalTime.{VirtualLocalTime}
 use Rattle.clock.specs.declared.time.GlobalTime.{GlobalTime}
@@ -102,7 +103,7 @@ record Stands (m : DomainSettings) (i : ℕ) (d : Domain) (l : List Sent) : Type
   latest : Newest
   row : Row m i latest l
   next :
-      (y : Sent) → hasWaited (m .period) (d .sending) (y .at) ≡ true → After m latest (d .«next_counter» % 16) y
+      (y : Sent) → hasWaited (m .period) (d .sending) (y .at) ≡ true → After m latest (d .«next_counter» % counters) y
   opened :
       (c : ℕ) (from : GlobalTime) (at : VirtualLocalTime) → d .sending ≡ Open c (from .0) (from .1) at →
       Opened m i latest c from at l
@@ -126,7 +127,7 @@ module _ (m : DomainSettings) (i : ℕ) (t : VirtualLocalTime) (g : GlobalTime) 
         }
       where
         c : ℕ
-        c = d .«next_counter» % 16
+        c = d .«next_counter» % counters
 
         y : Sent
         y = sentAs t g (d .settings .ids) (syncOf t d b)
@@ -178,7 +179,7 @@ module _ (m : DomainSettings) (i : ℕ) (t : VirtualLocalTime) (g : GlobalTime) 
               then-fup c y l (o .older) (subst (λ (x : Newest). Row m i x l) (o .last) (s .row)) (o .first) (o .sync) f
               sent;
           next =
-              λ x w. subst (λ (n : Newest). After m n (d .«next_counter» % 16) x) (o .last)
+              λ x w. subst (λ (n : Newest). After m n (d .«next_counter» % counters) x) (o .last)
               (s .next x (rw (told .held) w));
           opened = λ n g r e. let no : _≡_ {A = ℕ} 0 1 = cc in absurd (omega arith);
         }

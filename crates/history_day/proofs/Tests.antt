@@ -15,6 +15,7 @@ use mathlib.Core.List.{List, [], _∷_, _++_}
 use native.Mathlib.Omega.{arith}
 use lib.Dec.{eqb, leb}
 use borrow.Author.Tests.{eqb-true, leb-true, eq-eqb}
+use Rattle.settings.specs.Node.{places}
 use Rattle.promise.proofs.Tests.{both}
 use Rattle.clock.specs.declared.base.TimeBase.{TimeBase}
 use Rattle.clock.specs.declared.base.Held.{Held}
@@ -141,7 +142,7 @@ allFit k [] = true
 allFit k (x ∷ h) = allFit k h && fits k x h
 
 pub linked-by :
-    (k : Link) → k .domain < 16 → IsSettings (k .master) → IsSettings (k .slave) → judgedOf (k .master) ≡ Good →
+    (k : Link) → k .domain < places → IsSettings (k .master) → IsSettings (k .slave) → judgedOf (k .master) ≡ Good →
     judgedOf (k .slave) ≡ Good → masterSettings k .role ≡ Master → slaveSettings k .role ≡ Slave → Linked k
 linked-by k domain masters slaves master-good slave-good master slave =
     record {

@@ -5,7 +5,7 @@ use lib.Dec.{leb, eqb}
 use Rattle.clock.specs.declared.reading.VirtualLocalTime.{VirtualLocalTime}
 use Rattle.clock.specs.declared.time.GlobalTime.{GlobalTime}
 use Rattle.clock.specs.Reading.{spanOf}
-use Rattle.clock.specs.Time.{advanced}
+use Rattle.clock.specs.Base.{baseOf, timeAt}
 use Rattle.refusal.specs.declared.Refusal.the-variants.{NoOpenSync, NoRoom, Ovs}
 use Rattle.domain.specs.declared.Sending.{Sending}
 use Rattle.domain.specs.declared.Sending.the-variants.{Never, Open, Confirmed}
@@ -19,7 +19,7 @@ isOpenFor c sent at t counter = eqb sent counter && leb (spanOf at t) c
 -- ---- "The whole time is the SYNC's time plus the reading's advance." "as OVS the whole seconds beyond
 -- those sent"; 13 "OVS above 3"
 abbrev pub wholeOf : GlobalTime → VirtualLocalTime → VirtualLocalTime → GlobalTime
-wholeOf g at t = advanced g (spanOf at t)
+wholeOf g at t = timeAt (baseOf g at) t
 
 abbrev pub ovsOf : GlobalTime → VirtualLocalTime → VirtualLocalTime → ℕ
 ovsOf g at t = wholeOf g at t .0 - g .0

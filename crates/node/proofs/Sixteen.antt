@@ -13,9 +13,9 @@ use prog.Memory.{size}
 use denote.Laws.{Is}
 use denote.Struct.Laws as laws
 use Rattle.domain.specs.declared.Domain.{Domain}
+use Rattle.promise.proofs.Lists.{getD-any}
 use Rattle.settings.specs.Node.{places}
 use Rattle.domain.specs.Records.{recordAt}
-use Rattle.round.proofs.Rest.{getD-any}
 use Rattle.node.specs.declared.Node.{Node}
 use Rattle.node.proofs.Node as declared
 use Rattle.node.proofs.Node.Laws as declared-laws

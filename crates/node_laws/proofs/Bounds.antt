@@ -15,6 +15,7 @@ use mathlib.Core.Bool.{Bool, true}
 use native.Mathlib.Nat.{mod-eq-of-lt}
 use native.Mathlib.Omega.{arith}
 use lib.Dec.{leb}
+use Rattle.frame.specs.ByteTwo.{counters}
 use Rattle.clock.specs.declared.reading.VirtualLocalTime.{VirtualLocalTime}
 use Rattle.clock.specs.declared.base.TimeBase.{TimeBase}
 use Rattle.clock.specs.declared.base.Held.{Held}
@@ -95,20 +96,20 @@ module _ (i : ℕ) (kept : VirtualLocalTime) (d : Domain) (g : RecordGood i kept
 
   -- ---- the counter
 
-  pub next-counter-within : d .«next_counter» < 16
+  pub next-counter-within : d .«next_counter» < counters
   next-counter-within = by-role (d .settings .role) (g .role)
     where
-      by-sending : (s : Sending) → SentWithin kept (d .base) (d .«next_counter») s → d .«next_counter» < 16
+      by-sending : (s : Sending) → SentWithin kept (d .base) (d .«next_counter») s → d .«next_counter» < counters
       by-sending Never h = omega arith
       by-sending (Open counter seconds nanoseconds at) h = omega arith
       by-sending (Confirmed at) h = h .1
 
-      by-role : (r : Role) → RoleGood r kept d → d .«next_counter» < 16
+      by-role : (r : Role) → RoleGood r kept d → d .«next_counter» < counters
       by-role Absent h = omega (arith, ap (λ (x : Domain). x .«next_counter») h)
       by-role Slave h = omega arith
       by-role Master h = by-sending (d .sending) (h .sent)
 
-  pub next-counter-exact : d .«next_counter» % 16 ≡ d .«next_counter»
+  pub next-counter-exact : d .«next_counter» % counters ≡ d .«next_counter»
   next-counter-exact = mod-eq-of-lt next-counter-within
 
   -- ---- OVS

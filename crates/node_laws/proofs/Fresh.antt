@@ -9,6 +9,7 @@ use native.Mathlib.Omega.{arith}
 use borrow.Author.Tests.{leb-true}
 use lib.Dec.{leb}
 use lib.ListN.{length, replicate}
+use Rattle.settings.specs.Node.{places}
 use Rattle.promise.proofs.Tests.{either-told, both}
 use Rattle.clock.specs.declared.reading.VirtualLocalTime.{VirtualLocalTime}
 use Rattle.clock.specs.declared.base.Held.the-variants.{Unset}
@@ -124,4 +125,4 @@ new-good s n =
     (λ e.
     let h = both (within 1 16 (s .«syncs_per_cycle»)) (allGood (s .domains)) e in
     node-good (s .«syncs_per_cycle») (s .domains) (h .0) (h .1) n)
-    (λ e. node-good 1 (replicate 16 absentHeld) refl refl refl)
+    (λ e. node-good 1 (replicate places absentHeld) refl refl refl)

@@ -15,6 +15,8 @@ use lib.Dec.{ltb, eqb}
 use lib.ListN.{length, set as put}
 use lib.Seq.{getD-set-same, getD-set-other, set-getD}
 use borrow.Author.Tests.{eqb-true, eqb-false}
+use Rattle.settings.specs.Node.{places}
+use Rattle.round.specs.Turn.{nextPlace}
 use Rattle.promise.proofs.Tests.{either}
 use Rattle.clock.specs.declared.reading.VirtualLocalTime.{VirtualLocalTime}
 use Rattle.admission.specs.Reading.{isGoodReading}
@@ -79,12 +81,12 @@ refusal-keeps n (frame t bytes) e =
     (refusal-keeps-frame-call (recordAt (n .domains) (addressedBy bytes)) (n .kept) t bytes e)
 refusal-keeps n (read domain t) e = refl
 refusal-keeps n (set domain t s ns) e =
-    stored-same n (domain % 16)
-    (refusal-keeps-set-call (recordAt (n .domains) (domain % 16)) (n .kept) domain t s ns e)
+    stored-same n (domain % places)
+    (refusal-keeps-set-call (recordAt (n .domains) (domain % places)) (n .kept) domain t s ns e)
 refusal-keeps n (cycle t out) e = cycle-keeps n t out e .0
 refusal-keeps n (confirm domain t counter out) e =
-    let k = refusal-keeps-confirm-call (recordAt (n .domains) (domain % 16)) (n .kept) domain t counter out e in
-    stored-same n (domain % 16) (k .0, k .1)
+    let k = refusal-keeps-confirm-call (recordAt (n .domains) (domain % places)) (n .kept) domain t counter out e in
+    stored-same n (domain % places) (k .0, k .1)
 
 -- ---- the lent bytes, and the frames counted
 pub refusal-keeps-bytes :
@@ -95,7 +97,7 @@ refusal-keeps-bytes n (read domain t) e = (refl, refl)
 refusal-keeps-bytes n (set domain t s ns) e = (refl, refl)
 refusal-keeps-bytes n (cycle t out) e = let k = cycle-keeps n t out e in (k .1, k .2)
 refusal-keeps-bytes n (confirm domain t counter out) e =
-    (refusal-keeps-confirm-call (recordAt (n .domains) (domain % 16)) (n .kept) domain t counter out e .2, refl)
+    (refusal-keeps-confirm-call (recordAt (n .domains) (domain % places)) (n .kept) domain t counter out e .2, refl)
 
 -- ---- a read
 pub read-keeps : (n : Node) (domain : ℕ) (t : VirtualLocalTime) → nodeAfter n (read domain t) ≡ n
@@ -142,7 +144,7 @@ goes-leaves zero at sent most t ds next i m = refl
 goes-leaves (suc k) at sent most t ds next i m =
     let s = turnOf (ltb sent most) (recordAt ds at) t in
     let left = turn-leaves ds i at (ltb sent most) t m in
-    goes-leaves k ((at + 1) % 16) (sentAfter (s .answer) sent) most t (put ds at (s .domain))
+    goes-leaves k (nextPlace places at) (sentAfter (s .answer) sent) most t (put ds at (s .domain))
     (nextAfter (s .answer) at next) i (rw left m) ∙ left
 
 pub other-domains :
@@ -150,13 +152,13 @@ pub other-domains :
     recordAt (nodeAfter n c .domains) i ≡ recordAt (n .domains) i
 other-domains n (frame t bytes) i e = getD-set-other (n .domains) (addressedBy bytes) i _ _ e
 other-domains n (read domain t) i e = refl
-other-domains n (set domain t s ns) i e = getD-set-other (n .domains) (domain % 16) i _ _ e
+other-domains n (set domain t s ns) i e = getD-set-other (n .domains) (domain % places) i _ _ e
 other-domains n (cycle t out) i e =
     either (λ (r : NodeCycle). recordAt (r .node .domains) i ≡ recordAt (n .domains) i) (isGoodReading (n .kept) t)
     (either (λ (r : NodeCycle). recordAt (r .node .domains) i ≡ recordAt (n .domains) i) (isRoomFor n (length out))
-    (goes-leaves 16 (n .round % 16) 0 (n .«syncs_per_cycle») t (n .domains) (n .round) i e) refl)
+    (goes-leaves places (n .round % places) 0 (n .«syncs_per_cycle») t (n .domains) (n .round) i e) refl)
     refl
-other-domains n (confirm domain t counter out) i e = getD-set-other (n .domains) (domain % 16) i _ _ e
+other-domains n (confirm domain t counter out) i e = getD-set-other (n .domains) (domain % places) i _ _ e
 
 pub own-domain :
     (n m : Node) (c : Call) (i : ℕ) → Own c i →
@@ -188,7 +190,7 @@ module _ (n m : Node) (i : ℕ) (there : i < length (n .domains)) (here : i < le
   own-after (frame t bytes) o =
       stored-alike (addressedBy bytes) o (rw (o, same, kept)) (rw (o, same, kept))
   own-after (read domain t) o = (same, kept)
-  own-after (set domain t s ns) o = stored-alike (domain % 16) o (rw (o, same, kept)) (rw (o, same, kept))
+  own-after (set domain t s ns) o = stored-alike (domain % places) o (rw (o, same, kept)) (rw (o, same, kept))
   own-after (cycle t out) o = absurd o
   own-after (confirm domain t counter out) o =
-      stored-alike (domain % 16) o (rw (o, same, kept)) (rw (o, same, kept))
+      stored-alike (domain % places) o (rw (o, same, kept)) (rw (o, same, kept))

@@ -9,6 +9,7 @@ use mathlib.Core.Bool.{Bool}
 use native.Mathlib.Omega.{arith}
 use lib.Dec.{leb, eqb}
 use borrow.Author.Tests.{leb-true}
+use Rattle.frame.specs.ByteTwo.{counters}
 use Rattle.promise.proofs.Tests.{either, either-told}
 use Rattle.clock.specs.declared.reading.VirtualLocalTime.{VirtualLocalTime}
 use Rattle.clock.specs.declared.base.TimeBase.{TimeBase}
@@ -178,8 +179,8 @@ module _ (i : ℕ) (t : VirtualLocalTime) (d : Domain) (e : d .settings .role �
   sent-good : (b : TimeBase) → d .base ≡ Set b → timeAt b t .0 ≤ 4294967295 →
       RecordGood i t (sentOf d (timeAt b t .0) (timeAt b t .1) t .domain)
   sent-good b is fits =
-      let counter = d .«next_counter» % 16 in
-      sending-good (Open counter (timeAt b t .0) (timeAt b t .1) t) ((counter + 1) % 16) (
+      let counter = d .«next_counter» % counters in
+      sending-good (Open counter (timeAt b t .0) (timeAt b t .1) t) ((counter + 1) % counters) (
         subst BaseSet (sym is) tt,
         omega arith,
         refl,

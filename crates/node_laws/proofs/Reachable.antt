@@ -19,6 +19,8 @@ use mathlib.Core.List.{List}
 use native.Mathlib.Nat.{mod-eq-of-lt}
 use native.Mathlib.Omega.{arith}
 use lib.ListN.{length, take}
+use Rattle.settings.specs.Node.{places}
+use Rattle.frame.specs.ByteTwo.{counters}
 use Rattle.promise.proofs.Tests.{either, either-told}
 use Rattle.clock.specs.declared.reading.VirtualLocalTime.{VirtualLocalTime}
 use Rattle.clock.specs.declared.base.TimeBase.{TimeBase}
@@ -47,7 +49,8 @@ use Rattle.node.specs.Cycle.{isRoomFor, goneFrom, cycledBy, nodeCycleOf}
 use Rattle.node_call.specs.Calls.{Call, frame, read, set, cycle, confirm, nodeAfter}
 use Rattle.node_laws.specs.Reachable.{IsCall, Reachable, new, after}
 use Rattle.node_laws.specs.Good.{RecordGood, Good}
-use Rattle.node_laws.specs.Back.{Each, SyncBack}
+use Rattle.round.specs.FirstDue.{Each}
+use Rattle.node_laws.specs.Back.{SyncBack}
 use Rattle.admission.proofs.Laws.{good-reading}
 use Rattle.node_laws.proofs.Later.{Grows}
 use Rattle.node_laws.proofs.Slave.{frame-good, frame-kept}
@@ -69,7 +72,7 @@ all-good n g = record { sixteen = g .sixteen; records = g .records }
 -- ---- a record stored, a reading kept
 
 stored :
-    (n : Node) (at : ℕ) (d : Domain) (kept : VirtualLocalTime) → Good n → at < 16 → Grows (n .kept) kept →
+    (n : Node) (at : ℕ) (d : Domain) (kept : VirtualLocalTime) → Good n → at < places → Grows (n .kept) kept →
     RecordGood at kept d → Good (storedIn n at d kept)
 stored n at d kept g h grows r =
     let later = all-later (n .kept) kept (n .domains) (grows .0) (all-good n g) in
@@ -116,13 +119,13 @@ call-good n (frame t bytes) is g =
     (frame-good at (n .kept) t bytes d is (g .records at (omega arith)))
 call-good n (read domain t) is g = g
 call-good n (set domain t s ns) is g =
-    let at = domain % 16 in
+    let at = domain % places in
     let d = recordAt (n .domains) at in
     stored n at _ _ g (omega arith) (set-kept (n .kept) domain t s ns d)
     (set-good at (n .kept) domain t s ns d is (g .records at (omega arith)))
 call-good n (cycle t out) is g = cycle-good n t (length out) g
 call-good n (confirm domain t counter out) is g =
-    let at = domain % 16 in
+    let at = domain % places in
     let d = recordAt (n .domains) at in
     stored n at _ _ g (omega arith) (confirm-kept (n .kept) domain t counter (length out) d)
     (confirm-good at (n .kept) domain t counter (length out) d (g .records at (omega arith)))
@@ -131,39 +134,39 @@ pub reachable-good : (n : Node) → Reachable n → Good n
 reachable-good n (new s is) = new-good s is
 reachable-good n (after m r c is) = call-good m c is (reachable-good m r)
 
-pub record-good : (n : Node) → Reachable n → (i : ℕ) → i < 16 → RecordGood i (n .kept) (recordAt (n .domains) i)
+pub record-good : (n : Node) → Reachable n → (i : ℕ) → i < places → RecordGood i (n .kept) (recordAt (n .domains) i)
 record-good n r = reachable-good n r .records
 
 -- ---- the paper's bounds, and caps that are the identity
 
 module _ (n : Node) (r : Reachable n) where
-  at : (i : ℕ) → RecordGood (i % 16) (n .kept) (recordAt (n .domains) (i % 16))
-  at i = record-good n r (i % 16) (omega arith)
+  at : (i : ℕ) → RecordGood (i % places) (n .kept) (recordAt (n .domains) (i % places))
+  at i = record-good n r (i % places) (omega arith)
 
   pub received-most :
-      (i : ℕ) → i < 16 → recordAt (n .domains) i .settings .role ≡ Slave → (b : TimeBase) →
+      (i : ℕ) → i < places → recordAt (n .domains) i .settings .role ≡ Slave → (b : TimeBase) →
       recordAt (n .domains) i .base ≡ Set b → IsReceived (b .time)
   received-most i h = received-within i (n .kept) (recordAt (n .domains) i) (record-good n r i h)
 
   pub read-most :
       (domain : ℕ) (t : VirtualLocalTime) (shown : Shown) → nodeReadOf n domain t ≡ Time shown → IsRead (shown .time)
-  read-most domain = read-within (domain % 16) (n .kept) (recordAt (n .domains) (domain % 16)) (at domain) domain
+  read-most domain = read-within (domain % places) (n .kept) (recordAt (n .domains) (domain % places)) (at domain) domain
 
   pub ovs-most :
       (domain : ℕ) (t : VirtualLocalTime) (counter length : ℕ) →
       nodeConfirmOf n domain t counter length .answer ≡ Refused Ovs → ⊥
-  ovs-most domain = call-ovs-within (domain % 16) (n .kept) (recordAt (n .domains) (domain % 16)) (at domain) domain
+  ovs-most domain = call-ovs-within (domain % places) (n .kept) (recordAt (n .domains) (domain % places)) (at domain) domain
 
   pub counter-exact :
-      (i : ℕ) → i < 16 →
-      recordAt (n .domains) i .«next_counter» % 16 ≡ recordAt (n .domains) i .«next_counter»
+      (i : ℕ) → i < places →
+      recordAt (n .domains) i .«next_counter» % counters ≡ recordAt (n .domains) i .«next_counter»
   counter-exact i h = next-counter-exact i (n .kept) (recordAt (n .domains) i) (record-good n r i h)
 
-  pub round-exact : n .round % 16 ≡ n .round
+  pub round-exact : n .round % places ≡ n .round
   round-exact = mod-eq-of-lt (reachable-good n r .round)
 
   pub base-exact :
-      (i : ℕ) → i < 16 → (b : TimeBase) (t : VirtualLocalTime) → recordAt (n .domains) i .base ≡ Set b →
+      (i : ℕ) → i < places → (b : TimeBase) (t : VirtualLocalTime) → recordAt (n .domains) i .base ≡ Set b →
       n .kept .0 ≤ t .0 → t .0 ≤ 1000000000000000000 →
       (b .at .0 ≤ t .0) × (nanosecondsOf (timeAt b t) ≡ nanosecondsOf (b .time) + (t .0 - b .at .0))
   base-exact i h = time-exact-here i (n .kept) (recordAt (n .domains) i) (record-good n r i h)

@@ -11,6 +11,8 @@ use native.Mathlib.Omega.{arith}
 use lib.Dec.{leb}
 use lib.ListN.{length, take, drop}
 use lib.Seq.{take-at}
+use Rattle.settings.specs.Node.{places}
+use Rattle.frame.specs.ByteTwo.{counters}
 use Rattle.clock.specs.declared.reading.VirtualLocalTime.{VirtualLocalTime}
 use Rattle.clock.specs.Base.{timeAt}
 use Rattle.frame.specs.declared.values.Sync.{Sync}
@@ -51,7 +53,8 @@ use Rattle.node.specs.declared.Node.{Node}
 use Rattle.node.specs.Cycle.{goneFrom}
 use Rattle.node.specs.Confirm.{nodeConfirmOf, confirmedBytes}
 use Rattle.node_laws.specs.Good.{SentWithin, RoleGood, Good}
-use Rattle.node_laws.specs.Back.{Each, SyncBack, OpenBelow}
+use Rattle.round.specs.FirstDue.{Each}
+use Rattle.node_laws.specs.Back.{SyncBack, OpenBelow}
 use Rattle.node_laws.proofs.Cycles.{round-each}
 
 -- ---- a SYNC
@@ -60,13 +63,13 @@ abbrev sentBy : Domain → (seconds : ℕ) → Sync
 sentBy d seconds =
     record {
       domain = d .number;
-      counter = d .«next_counter» % 16;
+      counter = d .«next_counter» % counters;
       user0 = d .settings .user .0;
       seconds = seconds;
       protection = protectionOf (d .settings .security) (d .settings .user .1);
     }
 
-sent-fits : (d : Domain) (t : VirtualLocalTime) → d .number < 16 → (s : Sync) → sendOf d t .answer ≡ Sent s → SyncFits s
+sent-fits : (d : Domain) (t : VirtualLocalTime) → d .number < places → (s : Sync) → sendOf d t .answer ≡ Sent s → SyncFits s
 sent-fits d t h s =
     by-due (λ (due : Due). sendAs due d t .answer ≡ Sent s → SyncFits s) (d .settings .role) (d .settings .period)
     (d .base) (d .sending) t (λ e. let no : _≡_ {A = ℕ} 0 1 = cc in absurd (omega arith))
@@ -76,7 +79,7 @@ sent-fits d t h s =
 
 pub sync-read-back :
     (ds : List Domain) (first : ℕ) (t : VirtualLocalTime) (most : ℕ) →
-    ((i : ℕ) → i < 16 → recordAt ds i .number < 16) → Each (SyncBack ds t) (roundOf ds first t most .frames)
+    ((i : ℕ) → i < places → recordAt ds i .number < places) → Each (SyncBack ds t) (roundOf ds first t most .frames)
 sync-read-back ds first t most numbers =
     round-each (SyncBack ds t) most t ds
     (λ i h s e. record {
@@ -101,12 +104,12 @@ followedBy d counter ovs nanoseconds =
       protection = protectionOf (d .settings .security) (d .settings .user .2);
     }
 
-module _ (d : Domain) (t : VirtualLocalTime) (counter : ℕ) (f : Fup) (h : d .number < 16) where
+module _ (d : Domain) (t : VirtualLocalTime) (counter : ℕ) (f : Fup) (h : d .number < places) where
   abbrev Fits : Follow → Type 0
   Fits follow = confirmAs follow d counter .answer ≡ Followed f → FupFits f
 
   with-fits :
-      (ovs ns : ℕ) (at : VirtualLocalTime) → counter < 16 → ovs < 4 → ns < 1000000000 → Fits (With ovs ns at)
+      (ovs ns : ℕ) (at : VirtualLocalTime) → counter < counters → ovs < 4 → ns < 1000000000 → Fits (With ovs ns at)
   with-fits ovs ns at c o l e =
       let same : followedBy d counter ovs ns ≡ f = cc in
       subst FupFits same (record { domain = h; counter = c; ovs = o; nanoseconds = omega arith })
@@ -132,12 +135,12 @@ module _ (d : Domain) (t : VirtualLocalTime) (counter : ℕ) (f : Fup) (h : d .n
 
 pub fup-read-back :
     (n : Node) (domain : ℕ) (t : VirtualLocalTime) (counter : ℕ) (out : List ℕ) (f : Fup) →
-    let d = recordAt (n .domains) (domain % 16) in
+    let d = recordAt (n .domains) (domain % places) in
     let answer = nodeConfirmOf n domain t counter (length out) .answer in
-    d .number < 16 → OpenBelow (d .sending) → answer ≡ Followed f →
+    d .number < places → OpenBelow (d .sending) → answer ≡ Followed f →
     readOf (take 8 (confirmedBytes answer n domain out)) ≡ Values (fup f)
 fup-read-back n domain t counter out f h o e =
-    let d = recordAt (n .domains) (domain % 16) in
+    let d = recordAt (n .domains) (domain % places) in
     let bytes = bytesOf (d .settings .ids) (fup f) in
     ap (λ (a : ConfirmAnswer). readOf (take 8 (confirmedBytes a n domain out))) e
     ∙ ap readOf (take-at bytes (drop 8 out) 8 (bytes-length (d .settings .ids) (fup f)))
@@ -146,7 +149,7 @@ fup-read-back n domain t counter out f h o e =
 -- ---- both for a good node
 
 module _ (n : Node) (good : Good n) where
-  number-below : (i : ℕ) → i < 16 → recordAt (n .domains) i .number < 16
+  number-below : (i : ℕ) → i < places → recordAt (n .domains) i .number < places
   number-below i h = rw (good .records i h .number) h
 
   open-below : (role : Role) (d : Domain) → RoleGood role (n .kept) d → OpenBelow (d .sending)
@@ -167,7 +170,7 @@ module _ (n : Node) (good : Good n) where
       let answer = nodeConfirmOf n domain t counter (length out) .answer in
       answer ≡ Followed f → readOf (take 8 (confirmedBytes answer n domain out)) ≡ Values (fup f)
   good-fup-back domain t counter out f =
-      let d = recordAt (n .domains) (domain % 16) in
-      let below : domain % 16 < 16 = omega arith in
-      fup-read-back n domain t counter out f (number-below (domain % 16) below)
-      (open-below (d .settings .role) d (good .records (domain % 16) below .role))
+      let d = recordAt (n .domains) (domain % places) in
+      let below : domain % places < places = omega arith in
+      fup-read-back n domain t counter out f (number-below (domain % places) below)
+      (open-below (d .settings .role) d (good .records (domain % places) below .role))

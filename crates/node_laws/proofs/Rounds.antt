@@ -17,6 +17,8 @@ use lib.Dec.{ltb, eqb}
 use lib.ListN.{length, set, length-set}
 use lib.Seq.{getD-set-same, getD-set-other}
 use borrow.Author.Tests.{ltb-true, eqb-true, eqb-false}
+use Rattle.settings.specs.Node.{places}
+use Rattle.round.specs.Turn.{nextPlace}
 use Rattle.promise.proofs.Tests.{either, either-told}
 use Rattle.clock.specs.declared.reading.VirtualLocalTime.{VirtualLocalTime}
 use Rattle.frame.specs.declared.data_ids.DataIds.{DataIds}
@@ -35,8 +37,8 @@ use Rattle.node_laws.proofs.Master.{send-good}
 -- ---- sixteen good records
 
 pub record AllGood (kept : VirtualLocalTime) (ds : List Domain) : Type 0 where
-  pub sixteen : length ds ≡ 16
-  pub records : (i : ℕ) → i < 16 → RecordGood i kept (recordAt ds i)
+  pub sixteen : length ds ≡ places
+  pub records : (i : ℕ) → i < places → RecordGood i kept (recordAt ds i)
 
 pub all-later :
     (kept kept′ : VirtualLocalTime) (ds : List Domain) → kept .0 ≤ kept′ .0 → AllGood kept ds → AllGood kept′ ds
@@ -47,12 +49,12 @@ all-later kept kept′ ds le g =
     }
 
 pub stored-good :
-    (kept : VirtualLocalTime) (ds : List Domain) (at : ℕ) (d : Domain) → at < 16 → AllGood kept ds →
+    (kept : VirtualLocalTime) (ds : List Domain) (at : ℕ) (d : Domain) → at < places → AllGood kept ds →
     RecordGood at kept d → AllGood kept (set ds at d)
 stored-good kept ds at d h g new =
     record { sixteen = length-set ds at d ∙ g .sixteen; records = λ i below. by-place i below (eqb i at) refl }
   where
-    by-place : (i : ℕ) → i < 16 → (b : Bool) → eqb i at ≡ b → RecordGood i kept (recordAt (set ds at d) i)
+    by-place : (i : ℕ) → i < places → (b : Bool) → eqb i at ≡ b → RecordGood i kept (recordAt (set ds at d) i)
     by-place i below true e =
         let same = eqb-true i at e in
         rw (same, getD-set-same ds at d _ (omega (arith, g .sixteen))) new
@@ -66,19 +68,19 @@ pub turn-good :
 turn-good may i t d g =
     either (λ (s : SendStep). RecordGood i t (s .domain)) may (send-good i t t d (omega arith) g) g
 
-next-below : (a : SendAnswer) (at next : ℕ) → next < 16 → nextAfter a at next < 16
+next-below : (a : SendAnswer) (at next : ℕ) → next < places → nextAfter a at next < places
 next-below (Sent s) at next h = omega arith
 next-below NotDue at next h = h
 
 pub goes-good :
-    (turns at sent most : ℕ) (t : VirtualLocalTime) (ds : List Domain) (next : ℕ) → at < 16 → next < 16 →
+    (turns at sent most : ℕ) (t : VirtualLocalTime) (ds : List Domain) (next : ℕ) → at < places → next < places →
     AllGood t ds →
-    AllGood t (goes turns at sent most t ds next .domains) × (goes turns at sent most t ds next .next < 16)
+    AllGood t (goes turns at sent most t ds next .domains) × (goes turns at sent most t ds next .next < places)
 unfolding goes
 goes-good zero at sent most t ds next a n g = (g, n)
 goes-good (suc turns) at sent most t ds next a n g =
     let s = turnOf (ltb sent most) (recordAt ds at) t in
-    goes-good turns ((at + 1) % 16) (sentAfter (s .answer) sent) most t (set ds at (s .domain))
+    goes-good turns (nextPlace places at) (sentAfter (s .answer) sent) most t (set ds at (s .domain))
     (nextAfter (s .answer) at next) (omega arith) (next-below (s .answer) at next n)
     (stored-good t ds at (s .domain) a g (turn-good (ltb sent most) at t (recordAt ds at) (g .records at a)))
 
@@ -115,20 +117,20 @@ goes-count zero at sent most t ds next = (omega arith, omega arith)
 goes-count (suc turns) at sent most t ds next =
     let s = turnOf (ltb sent most) (recordAt ds at) t in
     turn-count sent most turns (recordAt ds at) t (recordAt ds at .settings .ids) _
-    (goes-count turns ((at + 1) % 16) (sentAfter (s .answer) sent) most t (set ds at (s .domain))
+    (goes-count turns (nextPlace places at) (sentAfter (s .answer) sent) most t (set ds at (s .domain))
     (nextAfter (s .answer) at next))
 
 -- ---- the round
 
 pub round-good :
-    (ds : List Domain) (first : ℕ) (kept t : VirtualLocalTime) (most : ℕ) → kept .0 ≤ t .0 → first < 16 →
-    AllGood kept ds → AllGood t (roundOf ds first t most .domains) × (roundOf ds first t most .next < 16)
+    (ds : List Domain) (first : ℕ) (kept t : VirtualLocalTime) (most : ℕ) → kept .0 ≤ t .0 → first < places →
+    AllGood kept ds → AllGood t (roundOf ds first t most .domains) × (roundOf ds first t most .next < places)
 round-good ds first kept t most le h g =
-    goes-good 16 (first % 16) 0 most t ds first (omega arith) h (all-later kept t ds le g)
+    goes-good places (first % places) 0 most t ds first (omega arith) h (all-later kept t ds le g)
 
 module _ (ds : List Domain) (first : ℕ) (t : VirtualLocalTime) (most : ℕ) where
   pub count-bound : length (roundOf ds first t most .frames) ≤ most
-  count-bound = omega (arith, goes-count 16 (first % 16) 0 most t ds first .0)
+  count-bound = omega (arith, goes-count places (first % places) 0 most t ds first .0)
 
   pub count-sixteen : length (roundOf ds first t most .frames) ≤ 16
-  count-sixteen = goes-count 16 (first % 16) 0 most t ds first .1
+  count-sixteen = goes-count places (first % places) 0 most t ds first .1

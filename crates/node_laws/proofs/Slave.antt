@@ -8,6 +8,7 @@ use mathlib.Core.List.{List, [], _∷_}
 use native.Mathlib.Omega.{arith}
 use lib.Dec.{eqb}
 use lib.ListN.{length, getD}
+use Rattle.frame.specs.ByteTwo.{counters}
 use Rattle.promise.proofs.Tests.{either, either-told, both}
 use Rattle.clock.specs.declared.reading.VirtualLocalTime.{VirtualLocalTime}
 use Rattle.clock.specs.declared.base.Held.{Held}
@@ -30,6 +31,8 @@ use Rattle.frame.specs.Types.{typeOf}
 use Rattle.frame_read.specs.Read.{wordOf, valuesOf, readOf}
 use Rattle.frame_check.specs.Check.{isTaken}
 use Rattle.refusal.specs.Numbers.{numberOf}
+use Rattle.frame_laws.specs.RoundTrip.{AreBytes}
+use Rattle.frame_laws.proofs.Laws.{byte-below}
 use Rattle.settings.specs.declared.domain_settings.Role.{Role}
 use Rattle.settings.specs.declared.domain_settings.Role.the-variants.{Slave}
 use Rattle.admission.specs.declared.Needed.the-variants.{Slave as slave}
@@ -59,7 +62,6 @@ use Rattle.slave_fup.specs.Fup.{updatedOf, fupAs}
 use Rattle.slave_frame.specs.Step.{kindOf, frameOf}
 use Rattle.admission.specs.Kept.{keptAfter}
 use Rattle.call_frame.specs.FrameCall.{frameCallAs, frameCallOf}
-use Rattle.node_laws.specs.Reachable.{AreBytes}
 use Rattle.node_laws.specs.Good.{
   HeldWithin,
   LastWithin,
@@ -74,17 +76,12 @@ use Rattle.node_laws.proofs.Later.{later, Grows, kept-stays}
 
 -- ---- what the bytes of a frame carry
 
-byte-below : (bytes : List ℕ) (i : ℕ) → AreBytes bytes → getD bytes i 0 < 256
-byte-below [] i h = omega arith
-byte-below (b ∷ rest) zero h = h .0
-byte-below (b ∷ rest) (suc i) h = byte-below rest i (h .1)
-
 word-below : (bytes : List ℕ) → AreBytes bytes → wordOf bytes < 4294967296
 word-below bytes h =
     omega (arith, byte-below bytes 4 h, byte-below bytes 5 h, byte-below bytes 6 h, byte-below bytes 7 h)
 
 abbrev Carried : Frame → Type 0
-Carried (sync s) = (s .counter < 16) × (s .seconds < 4294967296)
+Carried (sync s) = (s .counter < counters) × (s .seconds < 4294967296)
 Carried (fup f) = f .ovs ≤ 3
 
 abbrev ReadCarried : Read → Type 0

@@ -7,6 +7,8 @@ use mathlib.Core.Bool.{Bool}
 use mathlib.Core.List.{List, [], _∷_}
 use lib.Dec.{leb, ltb}
 use lib.ListN.{length, set as put}
+use Rattle.settings.specs.Node.{places}
+use Rattle.round.specs.Turn.{nextPlace}
 use Rattle.promise.proofs.Tests.{either}
 use Rattle.clock.specs.declared.reading.VirtualLocalTime.{VirtualLocalTime}
 use Rattle.frame.specs.declared.values.Fup.{Fup}
@@ -123,7 +125,7 @@ unfolding goes
 goes-stays zero at sent most t ds next i h = h
 goes-stays (suc k) at sent most t ds next i h =
     let s = turnOf (ltb sent most) (recordAt ds at) t in
-    goes-stays k ((at + 1) % 16) (sentAfter (s .answer) sent) most t (put ds at (s .domain))
+    goes-stays k (nextPlace places at) (sentAfter (s .answer) sent) most t (put ds at (s .domain))
     (nextAfter (s .answer) at next) i
     (put-stays ds i at (s .domain) (turn-stays (ltb sent most) (recordAt ds at) t) h)
 
@@ -138,18 +140,18 @@ base-stays n (frame t bytes) i =
     (frame-stays d (n .kept) t (frameAdmitted (n .kept) t (d .number) (d .settings .role) bytes) bytes)
 base-stays n (read domain t) i = λ h. h
 base-stays n (set domain t s ns) i =
-    let d = recordAt (n .domains) (domain % 16) in
-    put-stays (n .domains) i (domain % 16) _
+    let d = recordAt (n .domains) (domain % places) in
+    put-stays (n .domains) i (domain % places) _
     (set-stays d (n .kept) t (admittedOf (n .kept) t (d .number) (d .settings .role) domain Master) s ns)
 base-stays n (cycle t out) i =
     let P : NodeCycle → Type 0 = λ r. Stays (recordAt (n .domains) i) (recordAt (r .node .domains) i) in
     either P (isGoodReading (n .kept) t)
     (either P (isRoomFor n (length out))
-    (goes-stays 16 (n .round % 16) 0 (n .«syncs_per_cycle») t (n .domains) (n .round) i) (λ h. h))
+    (goes-stays places (n .round % places) 0 (n .«syncs_per_cycle») t (n .domains) (n .round) i) (λ h. h))
     (λ h. h)
 base-stays n (confirm domain t counter out) i =
-    let d = recordAt (n .domains) (domain % 16) in
-    put-stays (n .domains) i (domain % 16) _
+    let d = recordAt (n .domains) (domain % places) in
+    put-stays (n .domains) i (domain % places) _
     (confirm-stays d (n .kept) t (admittedOf (n .kept) t (d .number) (d .settings .role) domain Master) counter out)
 
 pub bases-stay :

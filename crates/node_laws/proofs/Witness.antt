@@ -21,7 +21,8 @@ use Rattle.round.specs.Round.{goes}
 use Rattle.node.specs.declared.Node.{Node}
 use Rattle.node.specs.New.{newOf}
 use Rattle.node_call.specs.Calls.{Call, frame, read, set, cycle, confirm, nodeAfter, nodeAfterAll}
-use Rattle.node_laws.specs.Reachable.{AreBytes, IsCall, Reachable, new, after}
+use Rattle.frame_laws.specs.RoundTrip.{AreBytes}
+use Rattle.node_laws.specs.Reachable.{IsCall, Reachable, new, after}
 use Rattle.bench_settings.specs.Bench.{benchWith}
 use Rattle.node_laws.specs.Cases.{benchCalls}
 

@@ -18,11 +18,7 @@ use Rattle.master_send.specs.declared.SendAnswer.the-variants.{Sent}
 use Rattle.master_send.specs.Send.{sendOf}
 use Rattle.domain.specs.Records.{recordAt}
 
--- ---- each frame of a list; all of them one after another; eight bytes
-abbrev pub Each : (List ℕ → Type 0) → List (List ℕ) → Type 0
-Each P [] = Unit {0}
-Each P (frame ∷ rest) = P frame × Each P rest
-
+-- ---- frames one after another; eight bytes
 abbrev pub joined : List (List ℕ) → List ℕ
 joined [] = []
 joined (frame ∷ rest) = frame ++ joined rest

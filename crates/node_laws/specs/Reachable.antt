@@ -5,16 +5,13 @@ use mathlib.Core.Path.{_≡_}
 use mathlib.Core.List.{List, [], _∷_}
 use lib.ListN.{length}
 use Rattle.settings.specs.declared.node_settings.NodeSettings.{NodeSettings}
+use Rattle.frame_laws.specs.RoundTrip.{AreBytes}
 use Rattle.settings.specs.Node.{places}
 use Rattle.node.specs.declared.Node.{Node}
 use Rattle.node.specs.New.{newOf}
 use Rattle.node_call.specs.Calls.{Call, frame, read, set, cycle, confirm, nodeAfter}
 
 -- ---- what the types of the arguments say: sixteen settings, bytes below 256, seconds of 32 bits
-abbrev pub AreBytes : List ℕ → Type 0
-AreBytes [] = Unit {0}
-AreBytes (byte ∷ rest) = (byte < 256) × AreBytes rest
-
 abbrev pub IsCall : Call → Type 0
 IsCall (frame t bytes) = AreBytes bytes
 IsCall (read domain t) = Unit {0}

@@ -18,7 +18,7 @@ use native.Mathlib.Omega.{arith}
 use lib.Dec.{eqb}
 use lib.ListN.{length, take, length-append}
 use borrow.Author.Tests.{eqb-true, eqb-false}
-use Rattle.promise.proofs.Laws.{either}
+use Rattle.promise.proofs.Tests.{either}
 use Rattle.round.specs.FirstDue.{dueAmong, Each, NotIn, AllApart}
 
 -- ---- a count f over some places

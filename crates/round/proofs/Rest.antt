@@ -1,17 +1,16 @@
 -- What is left of a round decides it: the invariant of `go_round`, kept by a turn.
 --   goes-turn      a turn, and then the turns that are left
---   getD-any       the record at a place that is there does not depend on the stand-in
 --   Rest           what is left of the turns gives what all of them give
 --   onward         and still after one turn
 --   at-end         so that with no turn left the round is done
 -- Assumes nothing.
-use Prim.Native.Nat.{ℕ, zero, suc, _+_, _≤_, _<_}
+use Prim.Native.Nat.{ℕ, zero, suc, _+_, _≤_}
 use mathlib.Core.Path.{_≡_, refl, sym, ap, _∙_}
 use mathlib.Core.List.{List, [], _∷_, _++_}
 use native.Mathlib.Nat.{add-zero}
 use native.Mathlib.Omega.{arith}
 use lib.Dec.{ltb}
-use lib.ListN.{length, getD, set}
+use lib.ListN.{length, set}
 use Rattle.clock.specs.declared.reading.VirtualLocalTime.{VirtualLocalTime}
 use Rattle.frame.specs.declared.data_ids.DataIds.{DataIds}
 use Rattle.settings.specs.Node.{places}
@@ -33,11 +32,6 @@ pub goes-turn :
     (nextAfter (s .answer) at next))
 unfolding goes
 goes-turn k at sent most t ds next = refl
-
-pub getD-any : {A : Type 0} (l : List A) (i : ℕ) (d e : A) → i < length l → getD l i d ≡ getD l i e
-getD-any [] i d e h = absurd (omega (arith, h))
-getD-any (x ∷ xs) zero d e h = refl
-getD-any (x ∷ xs) (suc i) d e h = getD-any xs i d e (omega (arith, h))
 
 pasted-turn :
     (a : SendAnswer) (ids : DataIds) (sent : ℕ) (frames : List (List ℕ)) (out : List ℕ) →

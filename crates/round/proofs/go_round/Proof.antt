@@ -8,11 +8,12 @@ use mathlib.Core.List.{List}
 use native.Mathlib.Omega.{arith}
 use lib.ListN.{length, length-set}
 use borrow.Author.Needs.{needs}
+use Rattle.promise.proofs.Lists.{getD-any}
 use Rattle.clock.specs.declared.reading.VirtualLocalTime.{VirtualLocalTime}
 use Rattle.settings.specs.Node.{places}
 use Rattle.domain.specs.declared.Domain.{Domain}
 use Rattle.round.specs.Round.{Gone, roundOf}
-use Rattle.round.proofs.Rest.{getD-any, sent-least, Rest, onward, at-end}
+use Rattle.round.proofs.Rest.{sent-least, Rest, onward, at-end}
 use Rattle.round.proofs.go_round.Statement.{statement}
 use Rattle.round.proofs.go_round.Tie as tie
 

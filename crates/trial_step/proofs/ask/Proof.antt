@@ -3,7 +3,7 @@
 use Prim.Native.Nat.{ℕ, zero, suc, _≤_}
 use mathlib.Core.Path.{_≡_, refl, sym, ap, subst, _∙_}
 use mathlib.Core.Bool.{Bool, true, false, cond}
-use mathlib.Core.List.{List, _∷_}
+use mathlib.Core.List.{List}
 use native.Mathlib.Omega.{arith}
 use lib.Dec.{ltb}
 use lib.ListN.{length, getD, take, replicate}
@@ -11,6 +11,7 @@ use lib.Seq.{length-take-le}
 use denote.Ref.{now}
 use borrow.Author.Needs.{needs}
 use borrow.Author.Tests.{ltb-true}
+use Rattle.promise.proofs.Lists.{take-replicate}
 use Rattle.text.specs.Fields.{pairAt}
 use Rattle.node.specs.declared.Node.{Node}
 use Rattle.node_call.specs.declared.Request.{Request}
@@ -38,11 +39,6 @@ lent-most (Cycle t) bytes = at-most (pairAt bytes 12)
 lent-most (Confirm domain t counter) bytes = at-most (pairAt bytes 13)
 
 -- ---- A part of a list of one value.
-take-replicate : (n m a : ℕ) → n ≤ m → take n (replicate m a) ≡ replicate n a
-take-replicate zero m a h = refl
-take-replicate (suc n) zero a h = absurd (omega arith)
-take-replicate (suc n) (suc m) a h = ap (λ (l : List ℕ). a ∷ l) (take-replicate n m a (omega arith))
-
 asked :
     (n : Node) (item : ℕ) (q : Request) (bytes : List ℕ) {frame before after : List ℕ} {count lent at : ℕ}
     {r : Step} →
