@@ -20,10 +20,10 @@ use mathlib.Core.Bool.{Bool, true, false, cond}
 use mathlib.Core.List.{List, _∷_, flatMap}
 use native.Mathlib.Nat.{mod-lt, mod-eq-of-lt, sub-zero}
 use native.Mathlib.Omega.{arith}
-use lib.Dec.{leb, ltb}
-use lib.ListN.{length, set, take, length-take}
-use lib.Seq.{length-take-le, take-all, take-nil, set-getD, ext-getD}
-use borrow.Author.Tests.{leb-true, leb-false, ltb-true, ltb-false}
+use lib.Dec.{ltb}
+use lib.ListN.{length, set, length-take}
+use lib.Seq.{take-nil, set-getD, ext-getD}
+use borrow.Author.Tests.{ltb-true, ltb-false}
 use Rattle.promise.specs.Only.{OnlyOne}
 use Rattle.clock.specs.declared.reading.VirtualLocalTime.{VirtualLocalTime}
 use Rattle.frame.specs.declared.data_ids.DataIds.{DataIds}
@@ -42,7 +42,7 @@ use Rattle.round.specs.Round.{framesBy, sentAfter, Gone, before, goes, r
 use Rattle.round.specs.FirstDue.{walk, dueAmong, servedOf}
 use Rattle.round.specs.FirstDue.{Each, NotIn, AllApart, nextBehind, frameBy, Serves, FirstDue}
 use Rattle.round.proofs.Places.{each-by, each-with, each-due, each-take, apart-due, apart-take}
-use Rattle.round.proofs.Places.{due-true, due-sum, due-lacks, said-count, among}
+use Rattle.round.proofs.Places.{due-true, due-sum, first-full, said-count, among}
 use Rattle.round.proofs.Walk.{sumBelow, walk-below, walk-apart, walk-all, walk-sum}
 use Rattle.round.proofs.Serve.{after-length, after-other, after-served}
 use Rattle.round.proofs.Serve.{Told, saying, toldOf, told, told-rests, told-serves}
@@ -194,17 +194,12 @@ module _ (ds : List Domain) (first : ℕ) (t : VirtualLocalTime) (most : ℕ) wh
       length-take most lined
       ∙ ap (min most) (due-sum isDueAt way ∙ walk-sum places oneAt (first % places) (begun first))
 
-  module _ (p : ℕ) (b : p < places) (d : isDue (recordAt ds p) t ≡ true) where
-    full-if :
-        (all : Bool) → leb (length lined) most ≡ all → NotIn p (take most lined) → length (take most lined) ≡ most
-    full-if false e h = length-take-le most lined (omega (arith, leb-false (length lined) most e))
-    full-if true e h =
-        let whole = take-all most lined (leb-true (length lined) most e) in
-        let lacks = due-lacks isDueAt p d way (subst (NotIn p) whole h) in
-        absurd (walk-all places (λ (q : ℕ). q ≢ p) p b (first % places) (begun first) lacks refl)
-
-    pub served-full : NotIn p (servedOf ds first t most) → length (servedOf ds first t most) ≡ most
-    served-full = full-if (leb (length lined) most) refl
+  pub served-full :
+      (p : ℕ) → p < places → isDue (recordAt ds p) t ≡ true → NotIn p (servedOf ds first t most) →
+      length (servedOf ds first t most) ≡ most
+  served-full p b d =
+      first-full isDueAt p d most way
+      (λ lacks. walk-all places (λ (q : ℕ). q ≢ p) p b (first % places) (begun first) lacks refl)
 
   said-one :
       length (flatMap (λ (p : ℕ). frameBy (recordAt ds p) t) (servedOf ds first t most))

@@ -4,6 +4,7 @@
 --   due-true     what `dueAmong` leaves is due
 --   due-sum      how many it leaves
 --   due-lacks    it leaves out no place that is due
+--   first-full   the first k of them leave out one that is there only where they are k
 --   same-due     two tests that agree at each place leave the same
 --   same-said    so does what is said there
 --   said-count   where each place says one thing, as many are said as there are places
@@ -15,9 +16,10 @@ use mathlib.Core.Logic.{_≢_}
 use mathlib.Core.Bool.{Bool, true, false, cond, true≢false}
 use mathlib.Core.List.{List, [], _∷_, _++_, flatMap}
 use native.Mathlib.Omega.{arith}
-use lib.Dec.{eqb}
+use lib.Dec.{leb, eqb}
 use lib.ListN.{length, take, length-append}
-use borrow.Author.Tests.{eqb-true, eqb-false}
+use lib.Seq.{length-take-le, take-all}
+use borrow.Author.Tests.{leb-true, leb-false, eqb-true, eqb-false}
 use Rattle.promise.proofs.Tests.{either}
 use Rattle.round.specs.FirstDue.{dueAmong, Each, NotIn, AllApart}
 
@@ -93,6 +95,18 @@ module _ (due : ℕ → Bool) where
     pub due-lacks : (ps : List ℕ) → NotIn x (dueAmong due ps) → NotIn x ps
     due-lacks [] h = tt
     due-lacks (p ∷ ps) h = lacks-if p ps (dueAmong due ps) (due p) refl (due-lacks ps) h
+
+    full-if :
+        (k : ℕ) (ps l : List ℕ) (all : Bool) → leb (length l) k ≡ all → (NotIn x l → NotIn x ps) →
+        (NotIn x ps → ⊥) → NotIn x (take k l) → length (take k l) ≡ k
+    full-if k ps l false e on there h = length-take-le k l (omega (arith, leb-false (length l) k e))
+    full-if k ps l true e on there h =
+        absurd (there (on (subst (NotIn x) (take-all k l (leb-true (length l) k e)) h)))
+
+    pub first-full :
+        (k : ℕ) (ps : List ℕ) → (NotIn x ps → ⊥) → NotIn x (take k (dueAmong due ps)) →
+        length (take k (dueAmong due ps)) ≡ k
+    first-full k ps = full-if k ps (dueAmong due ps) (leb (length (dueAmong due ps)) k) refl (due-lacks ps)
 
 -- ---- what is asked of each place alone decides
 

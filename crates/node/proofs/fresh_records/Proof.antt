@@ -1,5 +1,5 @@
 -- `node::fresh_records` meets its contract. The invariant: the records passed, and those of the
--- settings that are left, are all of them. The measure is what is left of the 16.
+-- settings that are left, are all of them. The measure is what is left of the places.
 -- Assumes nothing.
 use Prim.Native.Nat.{ℕ, zero, suc, _+_, _-_, _≤_, _<_}
 use mathlib.Core.Path.{_≡_, refl, sym, ap, _∙_}
@@ -12,16 +12,17 @@ use borrow.Author.Needs.{needs}
 use Rattle.settings.specs.declared.domain_settings.DomainSettings.{DomainSettings}
 use Rattle.domain.specs.declared.Domain.{Domain}
 use Rattle.domain.specs.Fresh.{freshOf}
+use Rattle.settings.specs.Node.{places}
 use Rattle.node.specs.New.{recordsOf}
 use Rattle.node.proofs.fresh_records.Statement.{statement}
 use Rattle.node.proofs.fresh_records.Tie as tie
 
 abbrev Inv-loop : tie.InvT-loop
 Inv-loop settings records₀ d₀ records d =
-    (d ≤ 16) × (length records ≡ 16) × (take d records ++ recordsOf d (drop d settings) ≡ recordsOf 0 settings)
+    (d ≤ places) × (length records ≡ places) × (take d records ++ recordsOf d (drop d settings) ≡ recordsOf 0 settings)
 
 abbrev μ-loop : tie.MeasureT-loop
-μ-loop settings records₀ d₀ records d = 16 - d
+μ-loop settings records₀ d₀ records d = places - d
 
 module _ (settings : List DomainSettings) (records : List Domain) (d : ℕ) (other : DomainSettings) (one : Domain)
     (more : d < length settings) (there : d < length records) (e : one ≡ freshOf d (getD settings d other)) where
@@ -43,7 +44,7 @@ all settings records d h k e =
     sym (take-all d records h) ∙ sym (append-nil (take d records))
     ∙ sym (ap (λ (l : List DomainSettings). take d records ++ recordsOf d l) (drop-of-length-le settings k)) ∙ e
 
-long : (c : tie.Start Inv-loop μ-loop) → length (c .args .t1) ≡ 16
+long : (c : tie.Start Inv-loop μ-loop) → length (c .args .t1) ≡ places
 long c = c .good .0 .1 .0 .1
 
 absent-requires : tie.Need-absent-requires Inv-loop μ-loop

@@ -5,6 +5,7 @@ use lib.ListN.{replicate}
 use borrow.Author.Needs.{needs}
 use Rattle.settings.specs.declared.domain_settings.DomainSettings.{DomainSettings}
 use Rattle.settings.specs.declared.node_settings.Verdict.{Verdict}
+use Rattle.settings.specs.Node.{places}
 use Rattle.node.specs.declared.Node.{Node}
 use Rattle.node.specs.declared.NewNode.{NewNode}
 use Rattle.node.specs.New.{freshNode, newAs, newOf}
@@ -40,7 +41,7 @@ returns c =
     let refused = c .before .before .before in
     let made : (v : Verdict) → Node → NewNode = λ v n. record { verdict = v; node = n } in
     ap (made _)
-    (c .fresh-node .ensures ∙ ap (λ (s : DomainSettings). freshNode 1 (replicate 16 s)) (c .before .absent .ensures))
+    (c .fresh-node .ensures ∙ ap (λ (s : DomainSettings). freshNode 1 (replicate places s)) (c .before .absent .ensures))
     ∙ as-judged (refused .before .before) _ (refused .refusal .given .1)
 
 returns-2 : tie.Need-returns-2

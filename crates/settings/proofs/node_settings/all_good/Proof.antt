@@ -1,5 +1,5 @@
 -- `settings::node_settings::all_good` meets its contract. The invariant: the domains passed are good, so
--- that what is left decides. The measure is what is left of the 16.
+-- that what is left decides. The measure is what is left of the places.
 -- Assumes nothing.
 use Prim.Native.Nat.{ℕ, suc, _+_, _-_, _≤_, _<_}
 use mathlib.Core.Path.{_≡_, refl, sym, ap, _∙_}
@@ -13,15 +13,15 @@ use borrow.Author.Needs.{needs}
 use borrow.Author.Tests.{not-true, not-false}
 use Rattle.settings.specs.declared.domain_settings.DomainSettings.{DomainSettings}
 use Rattle.settings.specs.Ranges.{isGood}
-use Rattle.settings.specs.Node.{allGood}
+use Rattle.settings.specs.Node.{places, allGood}
 use Rattle.settings.proofs.node_settings.all_good.Statement.{statement}
 use Rattle.settings.proofs.node_settings.all_good.Tie as tie
 
 abbrev Inv-loop : tie.InvT-loop
-Inv-loop domains d₀ d = (d ≤ 16) × (allGood (drop d domains) ≡ allGood domains)
+Inv-loop domains d₀ d = (d ≤ places) × (allGood (drop d domains) ≡ allGood domains)
 
 abbrev μ-loop : tie.MeasureT-loop
-μ-loop domains d₀ d = 16 - d
+μ-loop domains d₀ d = places - d
 
 module _ (l : List DomainSettings) (d : ℕ) (other : DomainSettings) (r : Bool) (more : d < length l)
     (e : r ≡ isGood (getD l d other)) where
@@ -36,7 +36,7 @@ module _ (l : List DomainSettings) (d : ℕ) (other : DomainSettings) (r : Bool)
       ap (λ (k : ℕ). allGood (drop k l)) (add-one d)
       ∙ sym (step ∙ ap (λ (b : Bool). b && allGood (drop (suc d) l)) good) ∙ before
 
-long : (c : tie.Start Inv-loop μ-loop) → length (c .args .t1) ≡ 16
+long : (c : tie.Start Inv-loop μ-loop) → length (c .args .t1) ≡ places
 long c = c .good .0 .1 .0 .1
 
 loop-holds : tie.Need-loop-holds Inv-loop μ-loop
