@@ -2,9 +2,10 @@
 --   read-back       what is written from values that fit is read as the same values (demand 2)
 --   write-back      a frame that reads, with a right check byte if it has one and zero reserved bits,
 --                   is written back byte for byte (demand 2)
+--   byte-below      each place of bytes holds one
 --   good-back       what is written is good under each mode that takes its kind
 -- Assumes nothing.
-use Prim.Native.Nat.{ℕ, _+_, _*_, _/_, _%_, _^_, _<_}
+use Prim.Native.Nat.{ℕ, zero, suc, _+_, _*_, _/_, _%_, _^_, _<_}
 use mathlib.Core.Path.{_≡_, refl, sym, ap, _∙_, subst}
 use mathlib.Core.Bool.{Bool, true, false, cond}
 use mathlib.Core.List.{List, [], _∷_}
