@@ -157,8 +157,17 @@ fn say_time(time: GlobalTime) {
 }
 
 fn say_frame(frame: [u8; 8]) {
-    for i in 0..8 {
-        print_hex(STDOUT_FILENO, frame[i] as u64, 2);
-    }
+    say_byte(frame[0]);
+    say_byte(frame[1]);
+    say_byte(frame[2]);
+    say_byte(frame[3]);
+    say_byte(frame[4]);
+    say_byte(frame[5]);
+    say_byte(frame[6]);
+    say_byte(frame[7]);
     write_all(STDOUT_FILENO, b"\n");
+}
+
+fn say_byte(byte: u8) {
+    print_hex(STDOUT_FILENO, byte as u64, 2);
 }
