@@ -1,6 +1,6 @@
 -- Laws of a FUP and its pair. No contract cites this file.
---   joins         a FUP that meets each test joins its pair; `Joins` says the tests
 --   by-joined     what a FUP finds: 7, 8, 9, or its pair; `Joins` is told where it finds it
+--   joins         a FUP that meets each test (`Joins`) finds its pair
 -- Assumes nothing.
 use Prim.Native.Nat.{ℕ, _≤_}
 use mathlib.Core.Path.{_≡_, refl}
@@ -23,12 +23,6 @@ pub record Joins (f : ℕ) (pairing : Pairing) (t : VirtualLocalTime) (fup : Fup
   pub same : fup .counter ≡ p .counter
   pub in-range : fup .nanoseconds ≤ 999999999
 
-pub joins :
-    (f : ℕ) (pairing : Pairing) (t : VirtualLocalTime) (fup : Fup) (p : Pair) → Joins f pairing t fup p →
-    joinedOf f pairing t fup ≡ With p
-joins f pairing t fup p j =
-    rw (j .held, le-ltb _ _ (j .young), eq-eqb _ _ (j .same), le-leb _ _ (j .in-range)) refl
-
 pub by-joined :
     (P : Joined → Type 0) (f : ℕ) (pairing : Pairing) (t : VirtualLocalTime) (fup : Fup) →
     P (Refused NoOpenPair) → P (Refused FupCounter) → P (Refused Nanoseconds) →
@@ -48,3 +42,9 @@ by-joined P f (Open p) t fup no-pair other above with =
       same = eqb-true _ _ (not-false _ same);
       in-range = leb-true _ _ (not-false _ in-range);
     }))))
+
+pub joins :
+    (f : ℕ) (pairing : Pairing) (t : VirtualLocalTime) (fup : Fup) (p : Pair) → Joins f pairing t fup p →
+    joinedOf f pairing t fup ≡ With p
+joins f pairing t fup p j =
+    rw (j .held, le-ltb _ _ (j .young), eq-eqb _ _ (j .same), le-leb _ _ (j .in-range)) refl
