@@ -105,11 +105,14 @@ NeverFall k (x ∷ h) = NeverFall k h × (now k h ≤ momentOf k x)
 
 -- ---- "Nobody else sends in the domain, and no frame from before the master's setting up is still on its way.
 -- The bus may lose, repeat and reorder frames, but no copy comes before its sending or more than E after it"
-pub record CopyIn (k : Link) (before : History) (x : Heard) : Type 0 where
-  pub of : Sent
+pub record CopyOf (k : Link) (before : History) (of : Sent) (x : Heard) : Type 0 where
   pub sent : In of (sentIn k before)
   pub same : x .bytes ≡ of .bytes
   pub soon : onSlave k (x .at) ≤ onMaster k (of .at) + k .e
+
+pub record CopyIn (k : Link) (before : History) (x : Heard) : Type 0 where
+  pub of : Sent
+  pub copied : CopyOf k before of x
 
 abbrev pub Carried : Link → History → Type 0
 Carried k [] = Unit {0}
@@ -122,7 +125,8 @@ pub record Exceed (k : Link) : Type 0 where
   pub confirmation : k .e + masterSettings k .«confirmation_time» < counters * masterSettings k .period
 
 -- ---- "each time the slave holds is the time one SYNC was sent with, carried on to its confirmation and tied to
--- the slave's reading at a copy of that SYNC": its confirmation gives the FUP that the domain sends next after it
+-- the slave's reading at a copy of that SYNC": its confirmation gives the FUP that the domain sends next after it; a
+-- copy is what the bus is said to carry: the same bytes, sent before, at most E before
 pub record TimeOfOne (k : Link) (h : History) (b : TimeBase) : Type 0 where
   pub sync : Sent
   pub fup : Sent
@@ -135,7 +139,7 @@ pub record TimeOfOne (k : Link) (h : History) (b : TimeBase) : Type 0 where
   pub after : History
   pub before : History
   pub copy : h ≡ after ++ (atSlave (frame (b .at) (sync .bytes)) ∷ before)
-  pub copied : In sync (sentIn k before)
+  pub copied : CopyOf k before sync (record { bytes = sync .bytes; at = b .at })
 
 abbrev pub EachTimeHeld : Type 0
 EachTimeHeld =

@@ -99,9 +99,12 @@ of-one k before x (s ∷ older) within e =
         let told = both (same (x .bytes) (s .bytes)) (leb (onSlave k (x .at)) (onMaster k (s .at) + k .e)) c in
         record {
           of = s;
-          sent = within s (inl refl);
-          same = same-true (x .bytes) (s .bytes) (told .0);
-          soon = leb-true _ _ (told .1);
+          copied =
+              record {
+                sent = within s (inl refl);
+                same = same-true (x .bytes) (s .bytes) (told .0);
+                soon = leb-true _ _ (told .1);
+              };
         }
     go false c later e = later e
 
