@@ -7,6 +7,7 @@ pub mod Begun
 pub mod Placed
 pub mod MasterView
 pub mod Standing
+pub mod Confirms
 pub mod SlaveView
 pub mod Held
 pub mod HeardAll

@@ -45,6 +45,7 @@ use Rattle.history.specs.History.{
   In,
   isFup,
   isSync,
+  counterIn,
 }
 
 -- ---- "Take one master and one fresh slave": good settings, the domain the master's in one and the slave's in
@@ -124,9 +125,25 @@ pub record Exceed (k : Link) : Type 0 where
   pub follow-up : k .e + slaveSettings k .«follow_up_time» < counters * masterSettings k .period
   pub confirmation : k .e + masterSettings k .«confirmation_time» < counters * masterSettings k .period
 
+-- ---- "its confirmation": each FUP that the master sends in the domain stands next after a SYNC with its counter, and
+-- was sent at most C after it
+pub record Confirms (k : Link) (fup : Sent) (older : List Sent) : Type 0 where
+  pub sync : Sent
+  pub rest : List Sent
+  pub next : older ≡ sync ∷ rest
+  pub is-sync : isSync sync ≡ true
+  pub counter : counterIn fup ≡ counterIn sync
+  pub not-before : sync .at .0 ≤ fup .at .0
+  pub in-time : fup .at .0 ≤ sync .at .0 + masterSettings k .«confirmation_time»
+
+abbrev pub EachFupConfirms : Type 0
+EachFupConfirms =
+    (k : Link) → Linked k → (h : History) → AreCalls h → (newer older : List Sent) (fup : Sent) →
+    sentIn k h ≡ newer ++ (fup ∷ older) → isFup fup ≡ true → Confirms k fup older
+
 -- ---- "each time the slave holds is the time one SYNC was sent with, carried on to its confirmation and tied to
--- the slave's reading at a copy of that SYNC": its confirmation gives the FUP that the domain sends next after it; a
--- copy is what the bus is said to carry: the same bytes, sent before, at most E before
+-- the slave's reading at a copy of that SYNC": its confirmation gives the FUP next to it (`EachFupConfirms`); a copy is
+-- what the bus is said to carry: the same bytes, sent before, at most E before
 pub record TimeOfOne (k : Link) (h : History) (b : TimeBase) : Type 0 where
   pub sync : Sent
   pub fup : Sent
