@@ -10,6 +10,7 @@ pub mod Standing
 pub mod Confirms
 pub mod SlaveView
 pub mod Held
+pub mod One
 pub mod HeardAll
 pub mod Since
 pub mod Follows

@@ -8,7 +8,7 @@ use Rattle.clock.specs.declared.reading.VirtualLocalTime.{VirtualLocalTime}
 use Rattle.clock.specs.declared.base.TimeBase.{TimeBase}
 use Rattle.clock.specs.declared.base.Held.the-variants.{Set}
 use Rattle.clock.specs.Reading.{isReading, spanOf}
-use Rattle.clock.specs.Time.{advanced}
+use Rattle.clock.specs.Time.{nanosecondsOf, advanced}
 use Rattle.clock.specs.Base.{baseOf}
 use Rattle.frame.specs.declared.data_ids.DataIds.{DataIds}
 use Rattle.frame.specs.ByteTwo.{counters}
@@ -162,6 +162,27 @@ abbrev pub EachTimeHeld : Type 0
 EachTimeHeld =
     (k : Link) → Linked k → Exceed k → (h : History) → AreCalls h → NeverFall k h → Carried k h →
     (b : TimeBase) → slaveRecord k h .base ≡ Set b → TimeOfOne k h b
+
+-- ---- "one SYNC": what was handed in is a copy of no other frame
+abbrev pub EachSyncOne : Type 0
+EachSyncOne =
+    (k : Link) → Linked k → Exceed k → (h : History) → AreCalls h → NeverFall k h →
+    (b : TimeBase) (one : TimeOfOne k h b) → (other : Sent) →
+    CopyOf k (one .before) other (record { bytes = one .sync .bytes; at = b .at }) → other ≡ one .sync
+
+-- ---- How far a time that the slave holds is off: it, less the time the SYNC was sent with carried on to the copy's
+-- arrival on the one scale, is at least -E and at most +C.
+pub record Near (k : Link) (b : TimeBase) (sync : Sent) : Type 0 where
+  pub behind :
+      nanosecondsOf (sync .time) + onSlave k (b .at) ≤ nanosecondsOf (b .time) + onMaster k (sync .at) + k .e
+  pub ahead :
+      nanosecondsOf (b .time) + onMaster k (sync .at)
+      ≤ nanosecondsOf (sync .time) + onSlave k (b .at) + masterSettings k .«confirmation_time»
+
+abbrev pub EachTimeNear : Type 0
+EachTimeNear =
+    (k : Link) → Linked k → (h : History) → AreCalls h → NeverFall k h →
+    (b : TimeBase) (one : TimeOfOne k h b) → Near k b (one .sync)
 
 -- ---- "from some moment": sent, or heard, at it or later
 abbrev pub since : {A : Type 0} → (A → ℕ) → (moment : ℕ) → List A → List A
