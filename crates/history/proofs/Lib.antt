@@ -15,3 +15,4 @@ pub mod HeardAll
 pub mod Since
 pub mod Follows
 pub mod Taken
+pub mod Demand

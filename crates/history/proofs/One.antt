@@ -1,4 +1,5 @@
 -- Demand 3, of a time that is of one SYNC. No contract cites this file.
+--   not-after        what was sent before the copy came was not sent after it
 --   each-sync-one    what was handed in is a copy of no other frame
 --   each-time-near   the time is at most E behind, and at most C ahead
 -- Assumes nothing.
@@ -73,15 +74,15 @@ sync-known m i l r z there is =
     absurd (true≢false (sym is ∙ fup-bytes m i (its .pair .counter) (its .y) z (its .pair .fup) .is-not)))
     (each-known m i (r .latest) l (r .row) z there)
 
-module _ (k : Link) (linked : Linked k) (h : History) (calls : AreCalls h) (fall : NeverFall k h) (b : TimeBase)
-    (one : TimeOfOne k h b) where
-  -- what was sent before the copy came was not sent after it
+module _ (k : Link) (h : History) (fall : NeverFall k h) (b : TimeBase) (one : TimeOfOne k h b) where
   falls : NeverFall k (atSlave (frame (b .at) (one .sync .bytes)) ∷ one .before)
   falls = fall-before k (one .after) _ (one .before) (subst (NeverFall k) (one .copy) fall)
 
-  not-after : (z : Sent) → In z (sentIn k (one .before)) → onMaster k (z .at) ≤ onSlave k (b .at)
+  -- what was sent before the copy came was not sent after it
+  pub not-after : (z : Sent) → In z (sentIn k (one .before)) → onMaster k (z .at) ≤ onSlave k (b .at)
   not-after z there = omega (arith, falls .1, sent-past k (one .before) (falls .0) z there)
 
+module _ (k : Link) (linked : Linked k) (h : History) (calls : AreCalls h) (b : TimeBase) (one : TimeOfOne k h b) where
   rows : RowOf (masterSettings k) (k .domain) (sentIn k (one .before))
   rows =
       standing k linked (one .before) (calls-before (one .after) _ (one .before) (subst AreCalls (one .copy) calls))
@@ -95,8 +96,8 @@ module _ (k : Link) (linked : Linked k) (h : History) (calls : AreCalls h) (fall
       (subst (Row m (k .domain) (r .latest)) (one .sent) (r .row)) in
       fup-here m (k .domain) (here .latest) (one .fup) (one .sync) (one .older) (here .row) (one .is-fup)
 
-  near : Near k b (one .sync)
-  near =
+  near : NeverFall k h → Near k b (one .sync)
+  near fall =
       let s = one .sync in
       let span = spanOf (s .at) (one .fup .at) in
       let fits : s .time .0 + (s .time .1 + span) / 1000000000 < 2 ^ 64 =
@@ -105,19 +106,19 @@ module _ (k : Link) (linked : Linked k) (h : History) (calls : AreCalls h) (fall
       ap nanosecondsOf (one .time) ∙ advance-exact (s .time) span fits in
       record {
         behind = omega (arith, whole, one .copied .soon);
-        ahead = omega (arith, whole, pair .fup .soon, pair .fup .later, not-after s (one .copied .sent));
+        ahead = omega (arith, whole, pair .fup .soon, pair .fup .later, not-after k h fall b one s (one .copied .sent));
       }
 
 pub each-time-near : EachTimeNear
-each-time-near k linked h calls fall b one = near k linked h calls fall b one
+each-time-near k linked h calls fall b one = near k linked h calls b one fall
 
 pub each-sync-one : EachSyncOne
 each-sync-one k linked exceed h calls fall b one other copy =
     let m = masterSettings k in
     let i = k .domain in
     let s = one .sync in
-    let r = rows k linked h calls fall b one in
-    let past = not-after k linked h calls fall b one in
+    let r = rows k linked h calls b one in
+    let past = not-after k h fall b one in
     let same : isSync s ≡ isSync other = ap ofSync (copy .same) in
     let its = sync-known m i _ r s (one .copied .sent) (one .is-sync) in
     let others = sync-known m i _ r other (copy .sent) (sym same ∙ one .is-sync) in

@@ -1,4 +1,5 @@
--- Demand 3, word for word, as hypotheses over a history and three statements. Assumes nothing.
+-- Demand 3, word for word, as hypotheses over a history and statements; at the end they stand together. Assumes
+-- nothing.
 use Prim.Native.Nat.{ℕ, _+_, _*_, _≤_, _<_}
 use mathlib.Core.Path.{_≡_}
 use mathlib.Core.Bool.{true, cond}
@@ -237,3 +238,21 @@ EachPairTaken =
     isFup (fup .of) ≡ true → spanOf (sync .at) (fup .at) ≤ slaveSettings k .«follow_up_time» →
     moment + slaveSettings k .«loss_time» ≤ onSlave k (sync .at) →
     Taken k moment h fup sync older
+
+-- ---- Demand 3: all that is proved. Each statement asks what it needs of the following, which is all that the demand
+-- asks of the two nodes, their clocks and the bus but for "exceed" and the moment.
+pub record Fair (k : Link) (h : History) : Type 0 where
+  pub linked : Linked k
+  pub reads : Reads k
+  pub calls : AreCalls h
+  pub never-fall : NeverFall k h
+  pub in-range : InRange h
+  pub carried : Carried k h
+
+pub record DemandThree : Type 0 where
+  pub heard : EachFrameHeard
+  pub confirms : EachFupConfirms
+  pub held : EachTimeHeld
+  pub one : EachSyncOne
+  pub near : EachTimeNear
+  pub taken : EachPairTaken

@@ -11,10 +11,10 @@ use mathlib.Core.List.{[], _∷_}
 use native.Mathlib.Omega.{arith}
 use Rattle.crc8.specs.Crc8.{stepOf, eightStepsOf, crcOf, checkOf}
 use Rattle.round.specs.Round.{goes}
-use Rattle.history.specs.Demand.{Linked, Orderly, TimeOfOne, Taken}
+use Rattle.history.specs.Demand.{Linked, Orderly, TimeOfOne, Taken, Fair}
 use Rattle.history.proofs.Held.{each-time-held}
 use Rattle.history.proofs.Taken.{each-pair-taken}
-use Rattle.history_day.specs.Met.{Fair, HeldMet, PairMet, numbersIn}
+use Rattle.history_day.specs.Met.{HeldMet, PairMet, numbersIn}
 use Rattle.history_day.specs.Settings.{ms}
 use Rattle.history_day.specs.Day.{
   dayLink,

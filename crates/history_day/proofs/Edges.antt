@@ -59,10 +59,11 @@ follow-up-linked = linked-by _ (omega arith) refl refl refl refl refl refl
 pub follow-up-wrong : WrongHeld followUpLink followUpEdge followUpBase
 unfolding goes
 follow-up-wrong =
+    let met = fair followUpLink follow-up-linked refl followUpEdge refl in
     record {
-      fair = fair followUpLink follow-up-linked refl followUpEdge refl;
+      fair = met;
       holds = refl;
-      wrong = not-of-one followUpLink followUpEdge followUpBase refl;
+      wrong = not-of-one followUpLink followUpEdge followUpBase (met .never-fall) refl;
     }
 
 pub follow-up-exceeded : HeldUnder ReachFollowUp → ⊥
@@ -83,10 +84,11 @@ confirmation-linked = linked-by _ (omega arith) refl refl refl refl refl refl
 pub confirmation-wrong : WrongHeld confirmationLink confirmationEdge confirmationBase
 unfolding goes
 confirmation-wrong =
+    let met = fair confirmationLink confirmation-linked refl confirmationEdge refl in
     record {
-      fair = fair confirmationLink confirmation-linked refl confirmationEdge refl;
+      fair = met;
       holds = refl;
-      wrong = not-of-one confirmationLink confirmationEdge confirmationBase refl;
+      wrong = not-of-one confirmationLink confirmationEdge confirmationBase (met .never-fall) refl;
     }
 
 pub confirmation-exceeded : HeldUnder ReachConfirmation → ⊥

@@ -22,28 +22,7 @@ use Rattle.history.specs.History.{
   slaveRecord,
   isFup,
 }
-use Rattle.history.specs.Demand.{
-  Linked,
-  Reads,
-  AreCalls,
-  InRange,
-  NeverFall,
-  Carried,
-  Exceed,
-  TimeOfOne,
-  Copy,
-  Orderly,
-  Taken,
-}
-
--- ---- all but "exceed": what is asked of the two nodes, their clocks and the bus
-pub record Fair (k : Link) (h : History) : Type 0 where
-  pub linked : Linked k
-  pub reads : Reads k
-  pub calls : AreCalls h
-  pub never-fall : NeverFall k h
-  pub in-range : InRange h
-  pub carried : Carried k h
+use Rattle.history.specs.Demand.{Exceed, TimeOfOne, Copy, Orderly, Taken, Fair}
 
 -- ---- what the first sentence asks, and a time that the slave then holds
 pub record HeldMet (k : Link) (h : History) (b : TimeBase) : Type 0 where
