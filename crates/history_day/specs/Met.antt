@@ -61,6 +61,11 @@ pub record ReachConfirmation (k : Link) : Type 0 where
   pub follow-up : k .e + slaveSettings k .«follow_up_time» < counters * masterSettings k .period
   pub confirmation : k .e + masterSettings k .«confirmation_time» ≤ counters * masterSettings k .period
 
+-- ---- a condition, and 16 sending periods of less than a second
+pub record Within (Condition : Link → Type 0) (k : Link) : Type 0 where
+  pub met : Condition k
+  pub within : counters * masterSettings k .period < 1000000000
+
 -- ---- a time that the slave holds and that is of no SYNC
 pub record WrongHeld (k : Link) (h : History) (b : TimeBase) : Type 0 where
   pub fair : Fair k h
