@@ -1,6 +1,10 @@
 -- Paper 01: "Demand 3 is stated over a history: the calls of both nodes in one order, with their readings."
 -- What a history is, what it makes of the two nodes, and which frames were sent and heard in it. Histories and
--- lists stand with the newest first. Assumes nothing.
+-- lists stand with the newest first; here is one from its oldest call on, with a copy of each of the two frames sent:
+--   master   set   cycle: SYNC 0                  confirm: FUP 0
+--   slave                         frame: SYNC 0                     frame: FUP 0   read
+--   scale    0     0              60              100               200            300 ms
+-- Assumes nothing.
 use Prim.Native.Nat.{ℕ, zero, suc, _+_}
 use mathlib.Core.Path.{_≡_}
 use mathlib.Core.Bool.{Bool, false, cond, _&&_, _||_}
