@@ -4,6 +4,7 @@
 use mathlib.Core.Path.{_≡_, sym, _∙_, subst}
 use mathlib.Core.Bool.{true, true≢false}
 use mathlib.Core.List.{List, _∷_}
+use native.Mathlib.Omega.{arith}
 use Rattle.history.specs.History.{Link, masterSettings, Sent, isFup}
 use Rattle.history.specs.Demand.{Confirms, EachFupConfirms}
 use Rattle.history.proofs.Row.{Newest, Row, then-sync, then-fup}
@@ -23,9 +24,9 @@ confirms-here k s f older (then-fup c y l′ rest r head sent f′ fs) is =
       rest = rest;
       next = head;
       is-sync = its .is;
-      counter = fup-bytes (masterSettings k) (k .domain) c y f fs .counter-in ∙ sym (its .counter-in);
+      counter = omega (arith, fup-bytes (masterSettings k) (k .domain) c y f fs .counter-in, its .counter-in);
       not-before = fs .later;
-      in-time = fs .soon;
+      in-time = omega (arith, fs .soon);
     }
 
 pub each-fup-confirms : EachFupConfirms

@@ -230,8 +230,8 @@ module _ (k : Link) (exceed : Exceed k) (h : History) (row : RowOf (masterSettin
         let sy = subst (λ (c : ℕ). SyncSent m i c (its .y)) same (its .pair .sync) in
         let fs = subst (λ (c : ℕ). FupSent m i c (its .y) (copy .of)) same (its .pair .fup) in
         let one : q .of ≡ its .y =
-        one-sync k exceed h row p q (copy .of) (its .y) t sy (its .there) fs (omega (arith, sent, le)) (copy .copied .soon)
-        (omega (arith, q .past, le)) span in
+        one-sync k exceed h row p q (copy .of) (its .y) t sy (its .there) fs (omega (arith, sent, le))
+        (copy .copied .soon) (omega (arith, q .past, le)) span in
         let whole = whole-time (its .y .time) (its .y .at) (copy .of .at) (sy .seconds) in
         let seconds : p .seconds ≡ its .y .time .0 = sym (q .seconds) ∙ ap (λ (z : Sent). z .time .0) one in
         record {

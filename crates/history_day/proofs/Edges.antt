@@ -1,7 +1,7 @@
 -- Demand 3's first sentence says "exceed" of two sums, and needs it of each: antt computes a history where 16
 -- sending periods only equal the one, and one where they only equal the other; each also within one second, where
--- SYNCs 16 apart are byte for byte the same. And the last sentence does not hold a nanosecond earlier. No contract
--- cites this file.
+-- SYNCs 16 apart are byte for byte the same. A time may be E behind, or C ahead. And the last sentence does not hold
+-- a nanosecond earlier. No contract cites this file.
 --   under-exceed           the sentence gives the sentence under "exceed"
 --   wrong-under            a wrong time that is held refutes the sentence under any condition that its link meets
 --   follow-up-equal        16 periods equal E plus the follow-up time
@@ -16,6 +16,8 @@
 --   anew-met               a history within one second that meets all of the first sentence
 --   anew-of-one            so what is held there is of one SYNC
 --   anew-wrong             its time tied to the reading at the SYNC 16 later is of none
+--   behind-by-e            a time that is E behind
+--   ahead-by-c             a time that is C ahead
 --   loss-met               the last sentence's hypotheses hold of a pair, but for the moment of its SYNC
 --   loss-one-earlier       that is a nanosecond before the moment plus L
 --   loss-not-taken         and the pair is not taken
@@ -24,6 +26,7 @@
 use Prim.Native.Nat.{_+_, _*_}
 use mathlib.Core.Path.{_≡_, refl, sym, ap, _∙_}
 use mathlib.Core.Bool.{true}
+use mathlib.Core.Logic.{inl, inr}
 use mathlib.Core.List.{[], _∷_}
 use native.Mathlib.Omega.{arith}
 use Rattle.clock.specs.declared.base.TimeBase.{TimeBase}
@@ -40,6 +43,8 @@ use Rattle.history_day.specs.Met.{
   ReachConfirmation,
   Within,
   WrongHeld,
+  BehindByE,
+  AheadByC,
 }
 use Rattle.history_day.specs.Edges.{
   followUpLink,
@@ -58,6 +63,16 @@ use Rattle.history_day.specs.Edges.{
   anewDay,
   anewHeld,
   anewBase,
+  nearLink,
+  nearSync,
+  behindFup,
+  behindBefore,
+  behindDay,
+  behindBase,
+  aheadFup,
+  aheadBefore,
+  aheadDay,
+  aheadBase,
   lossLink,
   lossMoment,
   lossSync,
@@ -126,7 +141,8 @@ confirmation-exceeded =
 
 -- ---- within one second
 pub follow-up-within-equal :
-    followUpWithinLink .e + slaveSettings followUpWithinLink .«follow_up_time» ≡ 16 * masterSettings followUpWithinLink .period
+    followUpWithinLink .e + slaveSettings followUpWithinLink .«follow_up_time»
+    ≡ 16 * masterSettings followUpWithinLink .period
 follow-up-within-equal = refl
 
 follow-up-within-linked : Linked followUpWithinLink
@@ -149,7 +165,8 @@ follow-up-within-exceeded =
     follow-up-within-wrong
 
 pub confirmation-within-equal :
-    confirmationWithinLink .e + masterSettings confirmationWithinLink .«confirmation_time» ≡ 16 * masterSettings confirmationWithinLink .period
+    confirmationWithinLink .e + masterSettings confirmationWithinLink .«confirmation_time»
+    ≡ 16 * masterSettings confirmationWithinLink .period
 confirmation-within-equal = refl
 
 confirmation-within-linked : Linked confirmationWithinLink
@@ -190,6 +207,59 @@ anew-of-one = held-met anewLink anewDay anewHeld anew-met each-time-held
 pub anew-wrong : TimeOfOne anewLink anewDay anewBase → ⊥
 unfolding goes
 anew-wrong = not-of-one anewLink anewDay anewBase (anew-met .fair .never-fall) refl
+
+-- ---- how far a time is off
+near-linked : Linked nearLink
+near-linked = linked-by _ (omega arith) refl refl refl refl refl refl
+
+near-exceed : Exceed nearLink
+near-exceed = record { follow-up = omega arith; confirmation = omega arith }
+
+pub behind-by-e : BehindByE nearLink behindDay behindBase
+unfolding goes
+behind-by-e =
+    record {
+      met = record { fair = fair nearLink near-linked refl behindDay refl; exceed = near-exceed; holds = refl };
+      one =
+          record {
+            sync = nearSync;
+            fup = behindFup;
+            newer = [];
+            older = [];
+            sent = refl;
+            is-sync = refl;
+            is-fup = refl;
+            time = refl;
+            after = _ ∷ [];
+            before = behindBefore;
+            copy = refl;
+            copied = record { sent = inr (inl refl); same = refl; soon = omega arith };
+          };
+      behind = refl;
+    }
+
+pub ahead-by-c : AheadByC nearLink aheadDay aheadBase
+unfolding goes
+ahead-by-c =
+    record {
+      met = record { fair = fair nearLink near-linked refl aheadDay refl; exceed = near-exceed; holds = refl };
+      one =
+          record {
+            sync = nearSync;
+            fup = aheadFup;
+            newer = [];
+            older = [];
+            sent = refl;
+            is-sync = refl;
+            is-fup = refl;
+            time = refl;
+            after = _ ∷ _ ∷ [];
+            before = aheadBefore;
+            copy = refl;
+            copied = record { sent = inl refl; same = refl; soon = omega arith };
+          };
+      ahead = refl;
+    }
 
 -- ---- the loss time
 loss-linked : Linked lossLink

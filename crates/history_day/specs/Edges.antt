@@ -1,7 +1,8 @@
 -- Demand 3 of paper 01: histories where 16 sending periods do not exceed, but equal, the one sum and exceed the
 -- other, and the slave takes a FUP with the SYNC of 16 periods before or after: over seconds, and within one second,
 -- where the two SYNCs are byte for byte the same. One where a pair's SYNC arrives a nanosecond before the moment plus
--- L, and the pair is not taken. And one that meets all, with a time that another slave might hold. Assumes nothing.
+-- L, and the pair is not taken. And some that meet all: one with a time that another slave might hold, one with a
+-- time that is E behind, one with a time that is C ahead. Assumes nothing.
 use Prim.Native.Nat.{ℕ, zero, suc, _+_, _*_}
 use mathlib.Core.List.{List, [], _∷_, _++_}
 use lib.ListN.{replicate, set as put}
@@ -10,7 +11,7 @@ use Rattle.frame_check.specs.declared.CheckMode.the-variants.{NotValidated}
 use Rattle.settings.specs.declared.domain_settings.Security.the-variants.{Plain}
 use Rattle.settings.specs.Domain.{asMaster}
 use Rattle.node_call.specs.Calls.{set, cycle}
-use Rattle.history.specs.History.{Link, Event, atMaster, History}
+use Rattle.history.specs.History.{Link, Event, atMaster, History, Sent}
 use Rattle.history.specs.Demand.{Copy}
 use Rattle.history_day.specs.Settings.{arrives, confirmsIn, copyOf, slaveFor, absents, noIds, millis, ms}
 
@@ -101,7 +102,7 @@ followUpWithinEdge =
 abbrev pub followUpWithinBase : TimeBase
 followUpWithinBase = record { time = record { 0 = 1000; 1 = 160000000 }; at = ms 1155 }
 
--- ---- E plus C as before: the slave holds the time of SYNC 0 at the copy of SYNC 16, 5 ms too late to be one of SYNC 0.
+-- ---- E plus C as before: the slave holds the time of SYNC 0 at the copy of SYNC 16, 5 ms too late to be SYNC 0's.
 abbrev fup0 : List ℕ
 fup0 = 0x18 ∷ 0x00 ∷ 0x00 ∷ 0x00 ∷ 0x00 ∷ 0x4C ∷ 0x4B ∷ 0x40 ∷ []
 
@@ -133,6 +134,43 @@ anewHeld = record { time = record { 0 = 1000; 1 = 5000000 }; at = ms 1003 }
 
 abbrev pub anewBase : TimeBase
 anewBase = record { time = record { 0 = 1000; 1 = 5000000 }; at = ms 1160 }
+
+-- ---- How far off: SYNC 0 is confirmed at once, and its copy comes E later; its copy comes at once, and it is confirmed C
+-- later.
+abbrev pub nearLink : Link
+nearLink = edgeWith 10 100 5 5
+
+abbrev pub nearSync : Sent
+nearSync = record { bytes = sync0; at = ms 1000; time = record { 0 = 1000; 1 = 0 } }
+
+abbrev pub behindFup : Sent
+behindFup =
+    record {
+      bytes = 0x18 ∷ 0x00 ∷ 0x00 ∷ 0x00 ∷ 0x00 ∷ 0x00 ∷ 0x00 ∷ 0x00 ∷ [];
+      at = ms 1000;
+      time = record { 0 = 1000; 1 = 0 };
+    }
+
+abbrev pub behindBefore : History
+behindBefore = confirms 1000 0 ∷ syncsWithin 0 1 ++ (sets ∷ [])
+
+abbrev pub behindDay : History
+behindDay = arrives 1100 (behindFup .bytes) ∷ arrives 1100 sync0 ∷ behindBefore
+
+abbrev pub behindBase : TimeBase
+behindBase = record { time = record { 0 = 1000; 1 = 0 }; at = ms 1100 }
+
+abbrev pub aheadFup : Sent
+aheadFup = record { bytes = fup0; at = ms 1005; time = record { 0 = 1000; 1 = 5000000 } }
+
+abbrev pub aheadBefore : History
+aheadBefore = syncsWithin 0 1 ++ (sets ∷ [])
+
+abbrev pub aheadDay : History
+aheadDay = arrives 1005 fup0 ∷ confirms 1005 0 ∷ arrives 1000 sync0 ∷ aheadBefore
+
+abbrev pub aheadBase : TimeBase
+aheadBase = record { time = record { 0 = 1000; 1 = 5000000 }; at = ms 1000 }
 
 -- ---- The loss time: SYNC 0 arrives 1 ns before the moment, SYNC 1 is lost. SYNC 2, sent late, arrives L after SYNC
 -- 0, so 1 ns before the moment plus L; J is 1, and it is refused by 6, its FUP by 7.

@@ -8,11 +8,13 @@ use Rattle.clock.specs.declared.base.TimeBase.{TimeBase}
 use Rattle.frame.specs.ByteTwo.{counters}
 use Rattle.clock.specs.declared.base.Held.the-variants.{Set}
 use Rattle.clock.specs.Reading.{spanOf}
+use Rattle.clock.specs.Time.{nanosecondsOf}
 use Rattle.node_call.specs.Calls.{numberIn, answerTo}
 use Rattle.history.specs.History.{
   Link,
   masterSettings,
   slaveSettings,
+  onMaster,
   onSlave,
   atMaster,
   atSlave,
@@ -71,6 +73,21 @@ pub record WrongHeld (k : Link) (h : History) (b : TimeBase) : Type 0 where
   pub fair : Fair k h
   pub holds : slaveRecord k h .base ≡ Set b
   pub wrong : TimeOfOne k h b → ⊥
+
+-- ---- a time that the slave holds, with all of the first sentence met, and that is E behind, or C ahead
+pub record BehindByE (k : Link) (h : History) (b : TimeBase) : Type 0 where
+  pub met : HeldMet k h b
+  pub one : TimeOfOne k h b
+  pub behind :
+      nanosecondsOf (one .sync .time) + onSlave k (b .at)
+      ≡ nanosecondsOf (b .time) + onMaster k (one .sync .at) + k .e
+
+pub record AheadByC (k : Link) (h : History) (b : TimeBase) : Type 0 where
+  pub met : HeldMet k h b
+  pub one : TimeOfOne k h b
+  pub ahead :
+      nanosecondsOf (b .time) + onMaster k (one .sync .at)
+      ≡ nanosecondsOf (one .sync .time) + onSlave k (b .at) + masterSettings k .«confirmation_time»
 
 -- ---- the number that each call is answered
 abbrev pub numbersIn : Link → History → List ℕ
