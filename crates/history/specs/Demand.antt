@@ -106,7 +106,8 @@ NeverFall k [] = Unit {0}
 NeverFall k (x ∷ h) = NeverFall k h × (now k h ≤ momentOf k x)
 
 -- ---- "Nobody else sends in the domain, and no frame from before the master's setting up is still on its way.
--- The bus may lose, repeat and reorder frames, but no copy comes before its sending or more than E after it"
+-- The bus may lose, repeat and reorder frames, but no copy comes before its sending or more than E after it".
+-- A copy of a frame has its bytes, and comes after the call that sent it, at most E later.
 pub record CopyOf (k : Link) (before : History) (of : Sent) (x : Heard) : Type 0 where
   pub sent : In of (sentIn k before)
   pub same : x .bytes ≡ of .bytes
@@ -239,8 +240,8 @@ EachPairTaken =
     moment + slaveSettings k .«loss_time» ≤ onSlave k (sync .at) →
     Taken k moment h fup sync older
 
--- ---- Demand 3: all that is proved. Each statement asks what it needs of the following, which is all that the demand
--- asks of the two nodes, their clocks and the bus but for "exceed" and the moment.
+-- ---- what the demand asks of the two nodes, their clocks and the bus but for "exceed" and the moment; each statement
+-- asks of it what it needs
 pub record Fair (k : Link) (h : History) : Type 0 where
   pub linked : Linked k
   pub reads : Reads k
@@ -249,6 +250,7 @@ pub record Fair (k : Link) (h : History) : Type 0 where
   pub in-range : InRange h
   pub carried : Carried k h
 
+-- ---- Demand 3: the statements together
 pub record DemandThree : Type 0 where
   pub heard : EachFrameHeard
   pub confirms : EachFupConfirms
