@@ -194,15 +194,15 @@ module _ (k : Link) (exceed : Exceed k) (h : History) (row : RowOf (masterSettin
             record {
               of = copy .of;
               sync = sy;
-              sent = copy .sent;
+              sent = copy .copied .sent;
               seconds = refl;
               not-before = omega (arith, sent, le);
-              soon = omega (arith, copy .soon);
+              soon = omega (arith, copy .copied .soon);
               past = omega arith;
               after = [];
               before = h;
-              copy = ap (λ (b : List ℕ). atSlave (frame t b) ∷ h) (copy .same);
-              copied = copy .sent;
+              copy = ap (λ (b : List ℕ). atSlave (frame t b) ∷ h) (copy .copied .same);
+              copied = copy .copied .sent;
             };
         base = still .base;
       })
@@ -230,8 +230,8 @@ module _ (k : Link) (exceed : Exceed k) (h : History) (row : RowOf (masterSettin
         let sy = subst (λ (c : ℕ). SyncSent m i c (its .y)) same (its .pair .sync) in
         let fs = subst (λ (c : ℕ). FupSent m i c (its .y) (copy .of)) same (its .pair .fup) in
         let one : q .of ≡ its .y =
-        one-sync k exceed h row p q (copy .of) (its .y) t sy (its .there) fs (omega (arith, sent, le)) (copy .soon)
-        (omega (arith, q .past, le)) span in
+        one-sync k exceed h row p q (copy .of) (its .y) t sy (its .there) fs (omega (arith, sent, le))
+        (copy .copied .soon) (omega (arith, q .past, le)) span in
         let whole = whole-time (its .y .time) (its .y .at) (copy .of .at) (sy .seconds) in
         let seconds : p .seconds ≡ its .y .time .0 = sym (q .seconds) ∙ ap (λ (z : Sent). z .time .0) one in
         record {
@@ -248,7 +248,12 @@ module _ (k : Link) (exceed : Exceed k) (h : History) (row : RowOf (masterSettin
           copy =
               ap (λ (l : History). x ∷ l) (q .copy)
               ∙ ap (λ (z : Sent). x ∷ (q .after ++ (atSlave (frame (p .at) (z .bytes)) ∷ q .before))) one;
-          copied = subst (λ (z : Sent). In z (sentIn k (q .before))) one (q .copied);
+          copied =
+              record {
+                sent = subst (λ (z : Sent). In z (sentIn k (q .before))) one (q .copied);
+                same = refl;
+                soon = subst (λ (z : Sent). onSlave k (p .at) ≤ onMaster k (z .at) + k .e) one (q .soon);
+              };
         }
 
     fup-kept : Kept k (x ∷ h) (kindOf d t (fup f) .domain)
@@ -275,7 +280,7 @@ module _ (k : Link) (linked : Linked k) (exceed : Exceed k) where
       read-as (fup (values-of its))
       (fup-read m i (its .pair .counter) (its .y) (copy .of) (linked .domain) (its .pair .sync .small) (its .pair .fup))
       (fup-kept k exceed h row t bytes le copy sent d held g its))
-      (each-known m i (row .latest) (sentIn k h) (row .row) (copy .of) (copy .sent))
+      (each-known m i (row .latest) (sentIn k h) (row .row) (copy .of) (copy .copied .sent))
     where
       m : DomainSettings
       m = masterSettings k
@@ -293,7 +298,7 @@ module _ (k : Link) (linked : Linked k) (exceed : Exceed k) where
       held = slave-settings k linked h calls
 
       sent : onMaster k (copy .of .at) ≤ now k h
-      sent = sent-past k h falls (copy .of) (copy .sent)
+      sent = sent-past k h falls (copy .of) (copy .copied .sent)
 
       values-of : PairIn (masterSettings k) (k .domain) (sentIn k h) (copy .of) → Fup
       values-of its =
@@ -306,7 +311,7 @@ module _ (k : Link) (linked : Linked k) (exceed : Exceed k) where
           Kept k (atSlave (frame t bytes) ∷ h) (kindOf (slaveRecord k h) t v .domain) →
           Kept k (atSlave (frame t bytes) ∷ h) (kindOf (slaveRecord k h) t values .domain)
       read-as v back kept =
-          let both : Values v ≡ Values values = sym back ∙ ap readOf (sym (copy .same)) ∙ reads in
+          let both : Values v ≡ Values values = sym back ∙ ap readOf (sym (copy .copied .same)) ∙ reads in
           let same : v ≡ values = cc in
           subst (λ (w : Frame). Kept k (atSlave (frame t bytes) ∷ h) (kindOf (slaveRecord k h) t w .domain)) same kept
 

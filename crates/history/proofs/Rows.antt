@@ -53,7 +53,7 @@ use Rattle.history.proofs.Row.{
 
 -- ---- bytes 0 and 2
 
-abbrev ofSync : List ℕ → Bool
+abbrev pub ofSync : List ℕ → Bool
 ofSync bytes = eqb (getD bytes 0 0) 0x10 || eqb (getD bytes 0 0) 0x20
 
 abbrev ofFup : List ℕ → Bool

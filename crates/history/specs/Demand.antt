@@ -1,4 +1,5 @@
--- Demand 3, word for word, as hypotheses over a history and three statements. Assumes nothing.
+-- Demand 3, word for word, as hypotheses over a history and statements; at the end they stand together. Assumes
+-- nothing.
 use Prim.Native.Nat.{ℕ, _+_, _*_, _≤_, _<_}
 use mathlib.Core.Path.{_≡_}
 use mathlib.Core.Bool.{true, cond}
@@ -8,7 +9,7 @@ use Rattle.clock.specs.declared.reading.VirtualLocalTime.{VirtualLocalTime}
 use Rattle.clock.specs.declared.base.TimeBase.{TimeBase}
 use Rattle.clock.specs.declared.base.Held.the-variants.{Set}
 use Rattle.clock.specs.Reading.{isReading, spanOf}
-use Rattle.clock.specs.Time.{advanced}
+use Rattle.clock.specs.Time.{nanosecondsOf, advanced}
 use Rattle.clock.specs.Base.{baseOf}
 use Rattle.frame.specs.declared.data_ids.DataIds.{DataIds}
 use Rattle.frame.specs.ByteTwo.{counters}
@@ -45,6 +46,7 @@ use Rattle.history.specs.History.{
   In,
   isFup,
   isSync,
+  counterIn,
 }
 
 -- ---- "Take one master and one fresh slave": good settings, the domain the master's in one and the slave's in
@@ -104,12 +106,16 @@ NeverFall k [] = Unit {0}
 NeverFall k (x ∷ h) = NeverFall k h × (now k h ≤ momentOf k x)
 
 -- ---- "Nobody else sends in the domain, and no frame from before the master's setting up is still on its way.
--- The bus may lose, repeat and reorder frames, but no copy comes before its sending or more than E after it"
-pub record CopyIn (k : Link) (before : History) (x : Heard) : Type 0 where
-  pub of : Sent
+-- The bus may lose, repeat and reorder frames, but no copy comes before its sending or more than E after it".
+-- A copy of a frame has its bytes, and comes after the call that sent it, at most E later.
+pub record CopyOf (k : Link) (before : History) (of : Sent) (x : Heard) : Type 0 where
   pub sent : In of (sentIn k before)
   pub same : x .bytes ≡ of .bytes
   pub soon : onSlave k (x .at) ≤ onMaster k (of .at) + k .e
+
+pub record CopyIn (k : Link) (before : History) (x : Heard) : Type 0 where
+  pub of : Sent
+  pub copied : CopyOf k before of x
 
 abbrev pub Carried : Link → History → Type 0
 Carried k [] = Unit {0}
@@ -121,8 +127,25 @@ pub record Exceed (k : Link) : Type 0 where
   pub follow-up : k .e + slaveSettings k .«follow_up_time» < counters * masterSettings k .period
   pub confirmation : k .e + masterSettings k .«confirmation_time» < counters * masterSettings k .period
 
+-- ---- "its confirmation": each FUP that the master sends in the domain stands next after a SYNC with its counter, and
+-- was sent at most C after it
+pub record Confirms (k : Link) (fup : Sent) (older : List Sent) : Type 0 where
+  pub sync : Sent
+  pub rest : List Sent
+  pub next : older ≡ sync ∷ rest
+  pub is-sync : isSync sync ≡ true
+  pub counter : counterIn fup ≡ counterIn sync
+  pub not-before : sync .at .0 ≤ fup .at .0
+  pub in-time : fup .at .0 ≤ sync .at .0 + masterSettings k .«confirmation_time»
+
+abbrev pub EachFupConfirms : Type 0
+EachFupConfirms =
+    (k : Link) → Linked k → (h : History) → AreCalls h → (newer older : List Sent) (fup : Sent) →
+    sentIn k h ≡ newer ++ (fup ∷ older) → isFup fup ≡ true → Confirms k fup older
+
 -- ---- "each time the slave holds is the time one SYNC was sent with, carried on to its confirmation and tied to
--- the slave's reading at a copy of that SYNC": its confirmation gives the FUP that the domain sends next after it
+-- the slave's reading at a copy of that SYNC": its confirmation gives the FUP next to it (`EachFupConfirms`); a copy is
+-- what the bus is said to carry: the same bytes, sent before, at most E before
 pub record TimeOfOne (k : Link) (h : History) (b : TimeBase) : Type 0 where
   pub sync : Sent
   pub fup : Sent
@@ -135,12 +158,33 @@ pub record TimeOfOne (k : Link) (h : History) (b : TimeBase) : Type 0 where
   pub after : History
   pub before : History
   pub copy : h ≡ after ++ (atSlave (frame (b .at) (sync .bytes)) ∷ before)
-  pub copied : In sync (sentIn k before)
+  pub copied : CopyOf k before sync (record { bytes = sync .bytes; at = b .at })
 
 abbrev pub EachTimeHeld : Type 0
 EachTimeHeld =
     (k : Link) → Linked k → Exceed k → (h : History) → AreCalls h → NeverFall k h → Carried k h →
     (b : TimeBase) → slaveRecord k h .base ≡ Set b → TimeOfOne k h b
+
+-- ---- "one SYNC": what was handed in is a copy of no other frame
+abbrev pub EachSyncOne : Type 0
+EachSyncOne =
+    (k : Link) → Linked k → Exceed k → (h : History) → AreCalls h → NeverFall k h →
+    (b : TimeBase) (one : TimeOfOne k h b) → (other : Sent) →
+    CopyOf k (one .before) other (record { bytes = one .sync .bytes; at = b .at }) → other ≡ one .sync
+
+-- ---- How far a time that the slave holds is off: it, less the time the SYNC was sent with carried on to the copy's
+-- arrival on the one scale, is at least -E and at most +C.
+pub record Near (k : Link) (b : TimeBase) (sync : Sent) : Type 0 where
+  pub behind :
+      nanosecondsOf (sync .time) + onSlave k (b .at) ≤ nanosecondsOf (b .time) + onMaster k (sync .at) + k .e
+  pub ahead :
+      nanosecondsOf (b .time) + onMaster k (sync .at)
+      ≤ nanosecondsOf (sync .time) + onSlave k (b .at) + masterSettings k .«confirmation_time»
+
+abbrev pub EachTimeNear : Type 0
+EachTimeNear =
+    (k : Link) → Linked k → (h : History) → AreCalls h → NeverFall k h →
+    (b : TimeBase) (one : TimeOfOne k h b) → Near k b (one .sync)
 
 -- ---- "from some moment": sent, or heard, at it or later
 abbrev pub since : {A : Type 0} → (A → ℕ) → (moment : ℕ) → List A → List A
@@ -195,3 +239,22 @@ EachPairTaken =
     isFup (fup .of) ≡ true → spanOf (sync .at) (fup .at) ≤ slaveSettings k .«follow_up_time» →
     moment + slaveSettings k .«loss_time» ≤ onSlave k (sync .at) →
     Taken k moment h fup sync older
+
+-- ---- what the demand asks of the two nodes, their clocks and the bus but for "exceed" and the moment; each statement
+-- asks of it what it needs
+pub record Fair (k : Link) (h : History) : Type 0 where
+  pub linked : Linked k
+  pub reads : Reads k
+  pub calls : AreCalls h
+  pub never-fall : NeverFall k h
+  pub in-range : InRange h
+  pub carried : Carried k h
+
+-- ---- Demand 3: the statements together
+pub record DemandThree : Type 0 where
+  pub heard : EachFrameHeard
+  pub confirms : EachFupConfirms
+  pub held : EachTimeHeld
+  pub one : EachSyncOne
+  pub near : EachTimeNear
+  pub taken : EachPairTaken

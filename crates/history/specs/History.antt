@@ -1,6 +1,10 @@
 -- Paper 01: "Demand 3 is stated over a history: the calls of both nodes in one order, with their readings."
 -- What a history is, what it makes of the two nodes, and which frames were sent and heard in it. Histories and
--- lists stand with the newest first. Assumes nothing.
+-- lists stand with the newest first; here is one from its oldest call on, with a copy of each of the two frames sent:
+--   master   set   cycle: SYNC 0                  confirm: FUP 0
+--   slave                         frame: SYNC 0                     frame: FUP 0   read
+--   scale    0     0              60              100               200            300 ms
+-- Assumes nothing.
 use Prim.Native.Nat.{ℕ, zero, suc, _+_}
 use mathlib.Core.Path.{_≡_}
 use mathlib.Core.Bool.{Bool, false, cond, _&&_, _||_}
@@ -21,6 +25,7 @@ use Rattle.settings.specs.declared.domain_settings.DomainSettings.{DomainSettin
 use Rattle.settings.specs.Domain.{absentHeld}
 use Rattle.settings.specs.declared.node_settings.NodeSettings.{NodeSettings}
 use Rattle.domain.specs.declared.Domain.{Domain}
+use Rattle.frame.specs.ByteTwo.{counterOf}
 use Rattle.frame.specs.Values.{domainIn}
 use Rattle.domain.specs.Records.{recordAt}
 use Rattle.node.specs.declared.Node.{Node}
@@ -138,12 +143,15 @@ sentIn k (atMaster c ∷ h) =
     (sentIn k h)
 sentIn k (atSlave c ∷ h) = sentIn k h
 
--- the kind, as byte 0 says it
+-- the kind, as byte 0 says it, and the counter, as byte 2 does
 abbrev pub isSync : Sent → Bool
 isSync s = eqb (getD (s .bytes) 0 0) 0x10 || eqb (getD (s .bytes) 0 0) 0x20
 
 abbrev pub isFup : Sent → Bool
 isFup s = eqb (getD (s .bytes) 0 0) 0x18 || eqb (getD (s .bytes) 0 0) 0x28
+
+abbrev pub counterIn : Sent → ℕ
+counterIn s = counterOf (getD (s .bytes) 2 0)
 
 -- ---- Heard: what a frame call hands in that passes tests 2 to 5 in the domain. "A copy arrives at the reading of
 -- the frame call that hands it in."

@@ -3,6 +3,7 @@
 --   day-taken     the last sentence's hypotheses hold of it and of its last pair, but for the moment
 --   day-numbers   what its calls are answered
 --   day-of-one    so the time is of one SYNC
+--   day-near      and as near as is said
 --   day-pair      and the pair is taken
 -- Assumes nothing.
 use mathlib.Core.Path.{_≡_, refl}
@@ -11,10 +12,11 @@ use mathlib.Core.List.{[], _∷_}
 use native.Mathlib.Omega.{arith}
 use Rattle.crc8.specs.Crc8.{stepOf, eightStepsOf, crcOf, checkOf}
 use Rattle.round.specs.Round.{goes}
-use Rattle.history.specs.Demand.{Linked, Orderly, TimeOfOne, Taken}
+use Rattle.history.specs.Demand.{Linked, Orderly, TimeOfOne, Near, Taken, Fair}
 use Rattle.history.proofs.Held.{each-time-held}
+use Rattle.history.proofs.One.{each-time-near}
 use Rattle.history.proofs.Taken.{each-pair-taken}
-use Rattle.history_day.specs.Met.{Fair, HeldMet, PairMet, numbersIn}
+use Rattle.history_day.specs.Met.{HeldMet, PairMet, numbersIn}
 use Rattle.history_day.specs.Settings.{ms}
 use Rattle.history_day.specs.Day.{
   dayLink,
@@ -77,6 +79,9 @@ day-numbers = refl
 -- ---- the theorems, of this day
 pub day-of-one : TimeOfOne dayLink day dayBase
 day-of-one = held-met dayLink day dayBase day-held each-time-held
+
+pub day-near : Near dayLink dayBase (day-of-one .sync)
+day-near = each-time-near dayLink linked day (day-fair .calls) (day-fair .never-fall) dayBase day-of-one
 
 pub day-pair : Taken dayLink dayMoment day copyFup5 copySync5 copiesBefore
 day-pair =

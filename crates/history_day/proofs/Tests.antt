@@ -5,7 +5,8 @@
 --   held-met    what is gathered of the first sentence is all that it asks
 --   taken-met   what is gathered of the last sentence is all that it asks, but for the moment
 --   never-set   a base that is unset after each part of a history was never set
---   not-of-one  a time that no FUP gives with the SYNC before it is of no SYNC
+--   not-of-one  a base is of no SYNC where no FUP gives its time with the SYNC before it, or no copy of that SYNC can
+--               have come at its reading
 -- Assumes nothing.
 use Prim.Native.Nat.{ℕ, _+_, _<_}
 use mathlib.Core.Path.{_≡_, refl, sym, ap, subst, _∙_}
@@ -14,9 +15,10 @@ use mathlib.Core.Bool.{Bool, true, false, _&&_, _||_, or-true, true≢false, fal
 use mathlib.Core.List.{List, [], _∷_, _++_}
 use native.Mathlib.Omega.{arith}
 use lib.Dec.{eqb, leb}
-use borrow.Author.Tests.{eqb-true, leb-true, eq-eqb}
+use borrow.Author.Tests.{eqb-true, leb-true, eq-eqb, le-leb}
 use Rattle.settings.specs.Node.{places}
 use Rattle.promise.proofs.Tests.{both}
+use Rattle.clock.specs.declared.reading.VirtualLocalTime.{VirtualLocalTime}
 use Rattle.clock.specs.declared.base.TimeBase.{TimeBase}
 use Rattle.clock.specs.declared.base.Held.{Held}
 use Rattle.clock.specs.declared.base.Held.the-variants.{Unset, Set}
@@ -53,13 +55,16 @@ use Rattle.history.specs.Demand.{
   callIn,
   momentOf,
   now,
+  NeverFall,
   CopyIn,
   Carried,
   TimeOfOne,
   EachTimeHeld,
   EachPairTaken,
+  Fair,
 }
-use Rattle.history_day.specs.Met.{Fair, HeldMet, TakenFrom}
+use Rattle.history.proofs.One.{not-after}
+use Rattle.history_day.specs.Met.{HeldMet, TakenFrom}
 
 -- ---- a heard frame is a copy of one of the frames sent
 abbrev same : List ℕ → List ℕ → Bool
@@ -99,9 +104,12 @@ of-one k before x (s ∷ older) within e =
         let told = both (same (x .bytes) (s .bytes)) (leb (onSlave k (x .at)) (onMaster k (s .at) + k .e)) c in
         record {
           of = s;
-          sent = within s (inl refl);
-          same = same-true (x .bytes) (s .bytes) (told .0);
-          soon = leb-true _ _ (told .1);
+          copied =
+              record {
+                sent = within s (inl refl);
+                same = same-true (x .bytes) (s .bytes) (told .0);
+                soon = leb-true _ _ (told .1);
+              };
         }
     go false c later e = later e
 
@@ -183,7 +191,7 @@ taken-met each k h moment newer fup sync older m late =
     each k (m .fair .linked) h (m .fair .calls) (m .fair .never-fall) (m .fair .in-range) moment (m .orderly)
     newer older fup sync (m .copies) (m .is-fup) (m .soon) (omega arith)
 
--- ---- a FUP and the SYNC before it give the time
+-- ---- a FUP and the SYNC before it give the time, and a copy of that SYNC can have come at its reading
 abbrev isTime : GlobalTime → GlobalTime → Bool
 isTime g g′ = eqb (g .0) (g′ .0) && eqb (g .1) (g′ .1)
 
@@ -193,26 +201,35 @@ is-time g g′ p =
     let nanoseconds = eq-eqb (g .1) (g′ .1) (ap (λ (x : GlobalTime). x .1) p) in
     rw (seconds, nanoseconds) refl
 
-abbrev gives : GlobalTime → Sent → List Sent → Bool
-gives g fup [] = false
-gives g fup (sync ∷ older) = isFup fup && isTime g (advanced (sync .time) (spanOf (sync .at) (fup .at)))
+abbrev comesAt : Link → VirtualLocalTime → Sent → Bool
+comesAt k at sync =
+    leb (onMaster k (sync .at)) (onSlave k at) && leb (onSlave k at) (onMaster k (sync .at) + k .e)
 
-abbrev pub isGiven : GlobalTime → List Sent → Bool
-isGiven g [] = false
-isGiven g (s ∷ older) = gives g s older || isGiven g older
+abbrev gives : Link → TimeBase → Sent → List Sent → Bool
+gives k b fup [] = false
+gives k b fup (sync ∷ older) =
+    isFup fup && isTime (b .time) (advanced (sync .time) (spanOf (sync .at) (fup .at))) && comesAt k (b .at) sync
+
+abbrev pub isGiven : Link → TimeBase → List Sent → Bool
+isGiven k b [] = false
+isGiven k b (s ∷ older) = gives k b s older || isGiven k b older
 
 is-given :
-    (g : GlobalTime) (newer : List Sent) (fup sync : Sent) (older : List Sent) → isFup fup ≡ true →
-    g ≡ advanced (sync .time) (spanOf (sync .at) (fup .at)) → isGiven g (newer ++ (fup ∷ sync ∷ older)) ≡ true
-is-given g [] fup sync older e p = rw (e, is-time g _ p) refl
-is-given g (s ∷ newer) fup sync older e p =
-    rw (is-given g newer fup sync older e p) (or-true (gives g s (newer ++ (fup ∷ sync ∷ older))))
+    (k : Link) (b : TimeBase) (newer : List Sent) (fup sync : Sent) (older : List Sent) → isFup fup ≡ true →
+    b .time ≡ advanced (sync .time) (spanOf (sync .at) (fup .at)) → comesAt k (b .at) sync ≡ true →
+    isGiven k b (newer ++ (fup ∷ sync ∷ older)) ≡ true
+is-given k b [] fup sync older e p c = rw (e, is-time (b .time) _ p, c) refl
+is-given k b (s ∷ newer) fup sync older e p c =
+    rw (is-given k b newer fup sync older e p c) (or-true (gives k b s (newer ++ (fup ∷ sync ∷ older))))
 
 pub not-of-one :
-    (k : Link) (h : History) (b : TimeBase) → isGiven (b .time) (sentIn k h) ≡ false → TimeOfOne k h b → ⊥
-not-of-one k h b e one =
-    let given = is-given (b .time) (one .newer) (one .fup) (one .sync) (one .older) (one .is-fup) (one .time) in
-    true≢false (sym given ∙ ap (isGiven (b .time)) (sym (one .sent)) ∙ e)
+    (k : Link) (h : History) (b : TimeBase) → NeverFall k h → isGiven k b (sentIn k h) ≡ false → TimeOfOne k h b → ⊥
+not-of-one k h b fall e one =
+    let first = le-leb _ _ (not-after k h fall b one (one .sync) (one .copied .sent)) in
+    let soon = le-leb _ _ (one .copied .soon) in
+    let given =
+    is-given k b (one .newer) (one .fup) (one .sync) (one .older) (one .is-fup) (one .time) (rw (first, soon) refl) in
+    true≢false (sym given ∙ ap (isGiven k b) (sym (one .sent)) ∙ e)
 
 -- ---- a base that was never set
 abbrev isUnset : Held → Bool

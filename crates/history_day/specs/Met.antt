@@ -8,11 +8,13 @@ use Rattle.clock.specs.declared.base.TimeBase.{TimeBase}
 use Rattle.frame.specs.ByteTwo.{counters}
 use Rattle.clock.specs.declared.base.Held.the-variants.{Set}
 use Rattle.clock.specs.Reading.{spanOf}
+use Rattle.clock.specs.Time.{nanosecondsOf}
 use Rattle.node_call.specs.Calls.{numberIn, answerTo}
 use Rattle.history.specs.History.{
   Link,
   masterSettings,
   slaveSettings,
+  onMaster,
   onSlave,
   atMaster,
   atSlave,
@@ -22,28 +24,7 @@ use Rattle.history.specs.History.{
   slaveRecord,
   isFup,
 }
-use Rattle.history.specs.Demand.{
-  Linked,
-  Reads,
-  AreCalls,
-  InRange,
-  NeverFall,
-  Carried,
-  Exceed,
-  TimeOfOne,
-  Copy,
-  Orderly,
-  Taken,
-}
-
--- ---- all but "exceed": what is asked of the two nodes, their clocks and the bus
-pub record Fair (k : Link) (h : History) : Type 0 where
-  pub linked : Linked k
-  pub reads : Reads k
-  pub calls : AreCalls h
-  pub never-fall : NeverFall k h
-  pub in-range : InRange h
-  pub carried : Carried k h
+use Rattle.history.specs.Demand.{Exceed, TimeOfOne, Copy, Orderly, Taken, Fair}
 
 -- ---- what the first sentence asks, and a time that the slave then holds
 pub record HeldMet (k : Link) (h : History) (b : TimeBase) : Type 0 where
@@ -82,11 +63,31 @@ pub record ReachConfirmation (k : Link) : Type 0 where
   pub follow-up : k .e + slaveSettings k .«follow_up_time» < counters * masterSettings k .period
   pub confirmation : k .e + masterSettings k .«confirmation_time» ≤ counters * masterSettings k .period
 
+-- ---- a condition, and 16 sending periods of less than a second
+pub record Within (Condition : Link → Type 0) (k : Link) : Type 0 where
+  pub met : Condition k
+  pub within : counters * masterSettings k .period < 1000000000
+
 -- ---- a time that the slave holds and that is of no SYNC
 pub record WrongHeld (k : Link) (h : History) (b : TimeBase) : Type 0 where
   pub fair : Fair k h
   pub holds : slaveRecord k h .base ≡ Set b
   pub wrong : TimeOfOne k h b → ⊥
+
+-- ---- a time that the slave holds, with all of the first sentence met, and that is E behind, or C ahead
+pub record BehindByE (k : Link) (h : History) (b : TimeBase) : Type 0 where
+  pub met : HeldMet k h b
+  pub one : TimeOfOne k h b
+  pub behind :
+      nanosecondsOf (one .sync .time) + onSlave k (b .at)
+      ≡ nanosecondsOf (b .time) + onMaster k (one .sync .at) + k .e
+
+pub record AheadByC (k : Link) (h : History) (b : TimeBase) : Type 0 where
+  pub met : HeldMet k h b
+  pub one : TimeOfOne k h b
+  pub ahead :
+      nanosecondsOf (b .time) + onMaster k (one .sync .at)
+      ≡ nanosecondsOf (one .sync .time) + onSlave k (b .at) + masterSettings k .«confirmation_time»
 
 -- ---- the number that each call is answered
 abbrev pub numbersIn : Link → History → List ℕ
