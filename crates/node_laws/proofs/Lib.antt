@@ -8,6 +8,7 @@ pub mod Bounds
 pub mod Reachable
 pub mod Keeps
 pub mod Laws
+pub mod Order
 pub mod Independent
 pub mod Stays
 pub mod Cycles

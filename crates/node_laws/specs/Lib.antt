@@ -3,5 +3,6 @@ pub mod Reachable
 pub mod Good
 pub mod Cases
 pub mod Due
+pub mod Tests
 pub mod Apart
 pub mod Back
