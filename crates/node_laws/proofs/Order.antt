@@ -184,7 +184,8 @@ frame-order n t bytes =
 
 -- ---- a read
 
-held-order : (base : Held) (d : Domain) (t : VirtualLocalTime) → readNumber (readAs base d t) ≡ cond (neverSet base) 10 0
+held-order :
+    (base : Held) (d : Domain) (t : VirtualLocalTime) → readNumber (readAs base d t) ≡ cond (neverSet base) 10 0
 held-order Unset d t = refl
 held-order (Set b) d t = refl
 

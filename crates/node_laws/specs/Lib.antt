@@ -4,5 +4,6 @@ pub mod Good
 pub mod Cases
 pub mod Due
 pub mod Tests
+pub mod Refused
 pub mod Apart
 pub mod Back
