@@ -11,6 +11,7 @@ pub mod Laws
 pub mod Order
 pub mod Refused
 pub mod Independent
+pub mod Through
 pub mod Stays
 pub mod Cycles
 pub mod ReadBack
