@@ -9,6 +9,7 @@ pub mod Reachable
 pub mod Keeps
 pub mod Laws
 pub mod Order
+pub mod Above
 pub mod Refused
 pub mod Independent
 pub mod Through
