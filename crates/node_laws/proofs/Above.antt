@@ -23,7 +23,8 @@ use Rattle.node_laws.proofs.Order.{order}
 
 -- of tests that begin with 1 and 4
 fourth :
-    (bad wrong : Bool) (tests : Tests) → wrong ≡ true → cond bad 1 (cond wrong 4 (firstOf (drop 2 tests))) ≡ cond bad 1 4
+    (bad wrong : Bool) (tests : Tests) → wrong ≡ true →
+    cond bad 1 (cond wrong 4 (firstOf (drop 2 tests))) ≡ cond bad 1 4
 fourth bad wrong tests e = ap (λ (b : Bool). cond bad 1 (cond b 4 (firstOf (drop 2 tests)))) e
 
 module _ (n : Node) (r : Reachable n) where
