@@ -8,7 +8,11 @@ pub mod Bounds
 pub mod Reachable
 pub mod Keeps
 pub mod Laws
+pub mod Order
+pub mod Above
+pub mod Refused
 pub mod Independent
+pub mod Through
 pub mod Stays
 pub mod Cycles
 pub mod ReadBack

@@ -1,10 +1,11 @@
 -- Paper 01, "Refusal numbers": "A domain's answers don't depend on calls for other domains, save through number
 -- 1 and, for masters, through S and the round": which calls are for a domain. Assumes nothing.
-use Prim.Native.Nat.{ℕ, _%_}
+use Prim.Native.Nat.{ℕ, _%_, _≤_}
 use mathlib.Core.Path.{_≡_}
-use mathlib.Core.Bool.{false}
+use mathlib.Core.Bool.{true, false}
 use mathlib.Core.List.{List, [], _∷_}
 use Rattle.clock.specs.declared.reading.VirtualLocalTime.{VirtualLocalTime}
+use Rattle.admission.specs.Reading.{isGoodReading}
 use Rattle.master_rules.specs.Due.{isMaster}
 use Rattle.settings.specs.Node.{places}
 use Rattle.domain.specs.Records.{recordAt}
@@ -42,3 +43,22 @@ keeping n kept =
       «syncs_per_cycle» = n .«syncs_per_cycle»;
       round = n .round;
     }
+
+-- ---- The reading of a call; it is good: number 1 is not given.
+abbrev pub readingIn : Call → VirtualLocalTime
+readingIn (frame t bytes) = t
+readingIn (read domain t) = t
+readingIn (set domain t s ns) = t
+readingIn (cycle t out) = t
+readingIn (confirm domain t counter out) = t
+
+abbrev pub Timely : Node → Call → Type 0
+Timely n c = isGoodReading (n .kept) (readingIn c) ≡ true
+
+-- ---- The call asks for a "domain above 15"; a frame names one of four bits.
+abbrev pub AsksAbove : Call → Type 0
+AsksAbove (frame t bytes) = ⊥
+AsksAbove (read domain t) = places ≤ domain
+AsksAbove (set domain t s ns) = places ≤ domain
+AsksAbove (cycle t out) = ⊥
+AsksAbove (confirm domain t counter out) = places ≤ domain

@@ -3,5 +3,7 @@ pub mod Reachable
 pub mod Good
 pub mod Cases
 pub mod Due
+pub mod Tests
+pub mod Refused
 pub mod Apart
 pub mod Back
