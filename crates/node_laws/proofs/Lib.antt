@@ -17,5 +17,6 @@ pub mod Stays
 pub mod Cycles
 pub mod ReadBack
 pub mod Accepted
+pub mod Demands
 pub mod Cases
 pub mod Witness
