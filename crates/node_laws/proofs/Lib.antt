@@ -16,5 +16,7 @@ pub mod Through
 pub mod Stays
 pub mod Cycles
 pub mod ReadBack
+pub mod Accepted
+pub mod Demands
 pub mod Cases
 pub mod Witness

@@ -7,3 +7,4 @@ pub mod Tests
 pub mod Refused
 pub mod Apart
 pub mod Back
+pub mod Demands
