@@ -97,7 +97,7 @@ after-one n k (confirm domain t counter out) i o p q =
 
 -- ---- calls in any order
 
-own-is : (c : Call) (i : ℕ) → isOwn c i ≡ true → Own c i
+pub own-is : (c : Call) (i : ℕ) → isOwn c i ≡ true → Own c i
 own-is (frame t bytes) i e = eqb-true (addressedBy bytes) i e
 own-is (read domain t) i e = eqb-true (domain % places) i e
 own-is (set domain t s ns) i e = eqb-true (domain % places) i e
@@ -148,6 +148,8 @@ module _ (i : ℕ) (below : i < places) where
           λ j. answer j ∷ others j
       step later false w q = later m h (other-domains n c i (e .0 w) ∙ same) q
 
-pub undisturbed : (n : Node) → Reachable n → (cs : List Call) (i : ℕ) → i < places → Undisturbed n cs i
+pub undisturbed :
+    (n : Node) → Reachable n → (cs : List Call) (i : ℕ) → i < places → AreCalls cs → OthersElsewhere n cs i →
+    Undisturbed n cs i
 undisturbed n r cs i below =
     let good = reachable-good n r in same-answers i below n n cs good good refl

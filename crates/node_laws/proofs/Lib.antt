@@ -14,6 +14,7 @@ pub mod Refused
 pub mod Independent
 pub mod Through
 pub mod Interleaved
+pub mod Roles
 pub mod Stays
 pub mod Cycles
 pub mod ReadBack

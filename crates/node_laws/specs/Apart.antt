@@ -94,8 +94,12 @@ ownAnswers n [] i = []
 ownAnswers n (c ∷ rest) i =
     let later = ownAnswers (nodeAfter n c) rest i in cond (isOwn c i) (answerTo n c ∷ later) later
 
--- ---- Each of the calls is one; the domain is no master's at a main cycle among them; the reading of each call that is
--- for the domain is good where it stands.
+-- ---- The domain at place i is no master's.
+abbrev pub NoMaster : Node → (i : ℕ) → Type 0
+NoMaster n i = isMaster (recordAt (n .domains) i .settings .role) ≡ false
+
+-- ---- Each of the calls is one; those that are not for the domain are for others; the reading of each call that is for
+-- the domain is good where it stands.
 abbrev pub AreCalls : List Call → Type 0
 AreCalls [] = Unit {0}
 AreCalls (c ∷ rest) = IsCall c × AreCalls rest
@@ -112,8 +116,7 @@ abbrev pub AllTimely : Node → List Call → Type 0
 AllTimely n [] = Unit {0}
 AllTimely n (c ∷ rest) = Timely n c × AllTimely (nodeAfter n c) rest
 
--- ---- The answers to the domain's own calls are those to its own calls alone, where no reading is refused.
+-- ---- The answers to the domain's own calls are those to its own calls alone, where no reading is refused in either.
 abbrev pub Undisturbed : Node → List Call → (i : ℕ) → Type 0
 Undisturbed n cs i =
-    AreCalls cs → OthersElsewhere n cs i → OwnTimely n cs i → AllTimely n (ownOf cs i) →
-    ownAnswers n cs i ≡ answersTo n (ownOf cs i)
+    OwnTimely n cs i → AllTimely n (ownOf cs i) → ownAnswers n cs i ≡ answersTo n (ownOf cs i)
