@@ -76,8 +76,8 @@ AsksAbove (set domain t s ns) = places ≤ domain
 AsksAbove (cycle t out) = ⊥
 AsksAbove (confirm domain t counter out) = places ≤ domain
 
--- ---- Calls for the domain at place i among others, in any order: whether a call is for it, the calls that are, and the
--- answers to these where they stand.
+-- ---- Calls for the domain at place i among others, in any order: whether a call is for it, the calls that are, and
+-- the answers to these where they stand.
 abbrev pub isOwn : Call → (i : ℕ) → Bool
 isOwn (frame t bytes) i = eqb (addressedBy bytes) i
 isOwn (read domain t) i = eqb (domain % places) i
@@ -98,8 +98,8 @@ ownAnswers n (c ∷ rest) i =
 abbrev pub NoMaster : Node → (i : ℕ) → Type 0
 NoMaster n i = isMaster (recordAt (n .domains) i .settings .role) ≡ false
 
--- ---- Each of the calls is one; those that are not for the domain are for others; the reading of each call that is for
--- the domain is good where it stands.
+-- ---- Each of the calls is one; those that are not for the domain are for others; the reading of each call that is
+-- for the domain is good where it stands.
 abbrev pub AreCalls : List Call → Type 0
 AreCalls [] = Unit {0}
 AreCalls (c ∷ rest) = IsCall c × AreCalls rest
