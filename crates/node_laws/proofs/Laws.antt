@@ -170,7 +170,7 @@ own-domain n m (cycle t out) i o e k = absurd o
 own-domain n m (confirm domain t counter out) i o e k = rw (o, e, k)
 
 -- and so do its record and the kept reading after the call
-stored-at :
+pub stored-at :
     (n : Node) (at i : ℕ) (d : Domain) (kept : VirtualLocalTime) → at ≡ i → i < length (n .domains) →
     recordAt (storedIn n at d kept .domains) i ≡ d
 stored-at n at i d kept o h = rw o (getD-set-same (n .domains) i d _ h)

@@ -13,6 +13,8 @@ pub mod Above
 pub mod Refused
 pub mod Independent
 pub mod Through
+pub mod Interleaved
+pub mod Roles
 pub mod Stays
 pub mod Cycles
 pub mod ReadBack

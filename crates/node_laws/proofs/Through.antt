@@ -100,7 +100,7 @@ module _ (n : Node) (k t : VirtualLocalTime) (out : List ℕ) where
 -- ---- a call
 
 -- a master's domain, asked for
-abbrev forMaster : Domain → (asked : ℕ) → Admission
+abbrev pub forMaster : Domain → (asked : ℕ) → Admission
 forMaster d asked = cond (isFor (d .number) (d .settings .role) asked Master) Admitted (Refused not-for)
 
 pub through-one :

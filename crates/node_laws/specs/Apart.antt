@@ -2,8 +2,9 @@
 -- 1 and, for masters, through S and the round": which calls are for a domain. Assumes nothing.
 use Prim.Native.Nat.{ℕ, _%_, _≤_}
 use mathlib.Core.Path.{_≡_}
-use mathlib.Core.Bool.{true, false}
+use mathlib.Core.Bool.{Bool, true, false, cond}
 use mathlib.Core.List.{List, [], _∷_}
+use lib.Dec.{eqb}
 use Rattle.clock.specs.declared.reading.VirtualLocalTime.{VirtualLocalTime}
 use Rattle.admission.specs.Reading.{isGoodReading}
 use Rattle.master_rules.specs.Due.{isMaster}
@@ -11,7 +12,19 @@ use Rattle.settings.specs.Node.{places}
 use Rattle.domain.specs.Records.{recordAt}
 use Rattle.node.specs.declared.Node.{Node}
 use Rattle.node.specs.Frame.{addressedBy}
-use Rattle.node_call.specs.Calls.{Call, frame, read, set, cycle, confirm, nodeAfter}
+use Rattle.node_call.specs.Calls.{
+  Call,
+  frame,
+  read,
+  set,
+  cycle,
+  confirm,
+  nodeAfter,
+  Answer,
+  answerTo,
+  answersTo,
+}
+use Rattle.node_laws.specs.Reachable.{IsCall}
 
 -- ---- The call is not for the domain at place i; a main cycle is for masters.
 abbrev pub Elsewhere : Node → Call → (i : ℕ) → Type 0
@@ -62,3 +75,48 @@ AsksAbove (read domain t) = places ≤ domain
 AsksAbove (set domain t s ns) = places ≤ domain
 AsksAbove (cycle t out) = ⊥
 AsksAbove (confirm domain t counter out) = places ≤ domain
+
+-- ---- Calls for the domain at place i among others, in any order: whether a call is for it, the calls that are, and
+-- the answers to these where they stand.
+abbrev pub isOwn : Call → (i : ℕ) → Bool
+isOwn (frame t bytes) i = eqb (addressedBy bytes) i
+isOwn (read domain t) i = eqb (domain % places) i
+isOwn (set domain t s ns) i = eqb (domain % places) i
+isOwn (cycle t out) i = false
+isOwn (confirm domain t counter out) i = eqb (domain % places) i
+
+abbrev pub ownOf : List Call → (i : ℕ) → List Call
+ownOf [] i = []
+ownOf (c ∷ rest) i = cond (isOwn c i) (c ∷ ownOf rest i) (ownOf rest i)
+
+abbrev pub ownAnswers : Node → List Call → (i : ℕ) → List Answer
+ownAnswers n [] i = []
+ownAnswers n (c ∷ rest) i =
+    let later = ownAnswers (nodeAfter n c) rest i in cond (isOwn c i) (answerTo n c ∷ later) later
+
+-- ---- The domain at place i is no master's.
+abbrev pub NoMaster : Node → (i : ℕ) → Type 0
+NoMaster n i = isMaster (recordAt (n .domains) i .settings .role) ≡ false
+
+-- ---- Each of the calls is one; those that are not for the domain are for others; the reading of each call that is
+-- for the domain is good where it stands.
+abbrev pub AreCalls : List Call → Type 0
+AreCalls [] = Unit {0}
+AreCalls (c ∷ rest) = IsCall c × AreCalls rest
+
+abbrev pub OthersElsewhere : Node → List Call → (i : ℕ) → Type 0
+OthersElsewhere n [] i = Unit {0}
+OthersElsewhere n (c ∷ rest) i = (isOwn c i ≡ false → Elsewhere n c i) × OthersElsewhere (nodeAfter n c) rest i
+
+abbrev pub OwnTimely : Node → List Call → (i : ℕ) → Type 0
+OwnTimely n [] i = Unit {0}
+OwnTimely n (c ∷ rest) i = (isOwn c i ≡ true → Timely n c) × OwnTimely (nodeAfter n c) rest i
+
+abbrev pub AllTimely : Node → List Call → Type 0
+AllTimely n [] = Unit {0}
+AllTimely n (c ∷ rest) = Timely n c × AllTimely (nodeAfter n c) rest
+
+-- ---- The answers to the domain's own calls are those to its own calls alone, where no reading is refused in either.
+abbrev pub Undisturbed : Node → List Call → (i : ℕ) → Type 0
+Undisturbed n cs i =
+    OwnTimely n cs i → AllTimely n (ownOf cs i) → ownAnswers n cs i ≡ answersTo n (ownOf cs i)
