@@ -35,7 +35,7 @@ use Rattle.node_call.specs.Calls.{
   answerTo,
   answersTo,
 }
-use Rattle.node_laws.specs.Reachable.{Reachable}
+use Rattle.node_laws.specs.Reachable.{AreCalls, Reachable}
 use Rattle.node_laws.specs.Good.{Good}
 use Rattle.node_laws.specs.Apart.{
   Own,
@@ -44,7 +44,6 @@ use Rattle.node_laws.specs.Apart.{
   isOwn,
   ownOf,
   ownAnswers,
-  AreCalls,
   OthersElsewhere,
   OwnTimely,
   AllTimely,

@@ -46,14 +46,13 @@ use Rattle.call_confirm.specs.ConfirmCall.{confirmCallAs}
 use Rattle.node.specs.declared.Node.{Node}
 use Rattle.node.specs.Frame.{addressedBy}
 use Rattle.node_call.specs.Calls.{Call, frame, read, set, cycle, confirm, nodeAfter}
-use Rattle.node_laws.specs.Reachable.{Reachable}
+use Rattle.node_laws.specs.Reachable.{AreCalls, Reachable}
 use Rattle.node_laws.specs.Good.{Good}
 use Rattle.node_laws.specs.Apart.{
   Elsewhere,
   Own,
   isOwn,
   NoMaster,
-  AreCalls,
   OthersElsewhere,
   Undisturbed,
 }

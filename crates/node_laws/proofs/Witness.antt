@@ -22,13 +22,9 @@ use Rattle.node.specs.declared.Node.{Node}
 use Rattle.node.specs.New.{newOf}
 use Rattle.node_call.specs.Calls.{Call, frame, read, set, cycle, confirm, nodeAfter, nodeAfterAll}
 use Rattle.frame_laws.specs.RoundTrip.{AreBytes}
-use Rattle.node_laws.specs.Reachable.{IsCall, Reachable, new, after}
+use Rattle.node_laws.specs.Reachable.{IsCall, AreCalls, Reachable, new, after}
 use Rattle.bench_settings.specs.Bench.{benchWith}
 use Rattle.node_laws.specs.Cases.{benchCalls}
-
-abbrev pub AreCalls : List Call → Type 0
-AreCalls [] = Unit {0}
-AreCalls (c ∷ rest) = IsCall c × AreCalls rest
 
 pub reaches : (n : Node) → Reachable n → (cs : List Call) → AreCalls cs → Reachable (nodeAfterAll n cs)
 reaches n r [] is = r

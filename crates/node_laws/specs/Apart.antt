@@ -24,7 +24,6 @@ use Rattle.node_call.specs.Calls.{
   answerTo,
   answersTo,
 }
-use Rattle.node_laws.specs.Reachable.{IsCall}
 
 -- ---- The call is not for the domain at place i; a main cycle is for masters.
 abbrev pub Elsewhere : Node → Call → (i : ℕ) → Type 0
@@ -98,12 +97,8 @@ ownAnswers n (c ∷ rest) i =
 abbrev pub NoMaster : Node → (i : ℕ) → Type 0
 NoMaster n i = isMaster (recordAt (n .domains) i .settings .role) ≡ false
 
--- ---- Each of the calls is one; those that are not for the domain are for others; the reading of each call that is
--- for the domain is good where it stands.
-abbrev pub AreCalls : List Call → Type 0
-AreCalls [] = Unit {0}
-AreCalls (c ∷ rest) = IsCall c × AreCalls rest
-
+-- ---- The calls that are not for the domain are for others; the reading of each call that is for the domain is good
+-- where it stands.
 abbrev pub OthersElsewhere : Node → List Call → (i : ℕ) → Type 0
 OthersElsewhere n [] i = Unit {0}
 OthersElsewhere n (c ∷ rest) i = (isOwn c i ≡ false → Elsewhere n c i) × OthersElsewhere (nodeAfter n c) rest i

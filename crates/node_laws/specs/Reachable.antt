@@ -19,6 +19,10 @@ IsCall (set domain t seconds nanoseconds) = seconds < 2 ^ 32
 IsCall (cycle t out) = Unit {0}
 IsCall (confirm domain t counter out) = Unit {0}
 
+abbrev pub AreCalls : List Call → Type 0
+AreCalls [] = Unit {0}
+AreCalls (c ∷ rest) = IsCall c × AreCalls rest
+
 abbrev pub IsSettings : NodeSettings → Type 0
 IsSettings s = length (s .domains) ≡ places
 
