@@ -11,5 +11,6 @@ use Rattle.frame.specs.declared.data_ids.DataIds.{DataIds}
 use Rattle.frame_check.specs.declared.CheckMode.{CheckMode}
 use Rattle.frame_check.specs.Check.{isTaken}
 
-pub takes-only : (mode : CheckMode) (ids : DataIds) (bytes : List ℕ) → OnlyOne (λ (r : Bool). r ≡ isTaken mode ids bytes)
+pub takes-only :
+    (mode : CheckMode) (ids : DataIds) (bytes : List ℕ) → OnlyOne (λ (r : Bool). r ≡ isTaken mode ids bytes)
 takes-only mode ids bytes = equation-only _

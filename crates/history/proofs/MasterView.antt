@@ -194,7 +194,8 @@ module _ (i : ℕ) (below : i < places) (t : VirtualLocalTime) (g : GlobalTime) 
       let s = turnOf (ltb sent most) d t in
       let number = good .records at a .number in
       let gone =
-      goes k (nextPlace places at) (sentAfter (s .answer) sent) most t (put ds at (s .domain)) (nextAfter (s .answer) at next)
+      goes k (nextPlace places at) (sentAfter (s .answer) sent) most t (put ds at (s .domain))
+      (nextAfter (s .answer) at next)
       in
       let e = recordAt (gone .domains) i in
       let m = noted i t g (framesBy (s .answer) (d .settings .ids) ++ gone .frames) l in
@@ -222,7 +223,8 @@ frame-refused LengthNot8 own role d kept t bytes e = refl
 frame-refused NoSuchType own role d kept t bytes e = refl
 frame-refused (Values values) own role d kept t bytes e = rw (e, and-false (eqb (domainIn values) own))
 
-module _ (n : Node) (good : Good n) (i : ℕ) (below : i < places) (role : recordAt (n .domains) i .settings .role ≡ Master)
+module _ (n : Node) (good : Good n) (i : ℕ) (below : i < places)
+    (role : recordAt (n .domains) i .settings .role ≡ Master)
     (g : GlobalTime) (l : List Sent) where
   abbrev d : Domain
   d = recordAt (n .domains) i
@@ -283,7 +285,8 @@ module _ (n : Node) (good : Good n) (i : ℕ) (below : i < places) (role : recor
         either-told CycleMoves (isRoomFor n (length out))
         (λ room.
         rw (found room)
-        (goes-moves i below t g places (n .round % places) 0 (n .«syncs_per_cycle») (n .domains) (n .round) l (omega arith)
+        (goes-moves i below t g places (n .round % places) 0 (n .«syncs_per_cycle») (n .domains) (n .round) l
+        (omega arith)
         (all-later (n .kept) t (n .domains) (good-reading (n .kept) t e .0)
         (record { sixteen = good .sixteen; records = good .records }))))
         (λ e. as-it-was t))

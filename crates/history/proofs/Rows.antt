@@ -264,7 +264,8 @@ module _ (m : DomainSettings) (i : ℕ) where
 
   -- ---- the frames are read as the values sent
   pub sync-read :
-      (c : ℕ) (y : Sent) → i < places → SyncSent m i c y → readOf (y .bytes) ≡ Values (sync (syncValues m i c (y .time .0)))
+      (c : ℕ) (y : Sent) → i < places → SyncSent m i c y →
+      readOf (y .bytes) ≡ Values (sync (syncValues m i c (y .time .0)))
   sync-read c y h s =
       ap readOf (s .bytes)
       ∙ read-back (m .ids) (sync (syncValues m i c (y .time .0)))

@@ -135,8 +135,8 @@ anewHeld = record { time = record { 0 = 1000; 1 = 5000000 }; at = ms 1003 }
 abbrev pub anewBase : TimeBase
 anewBase = record { time = record { 0 = 1000; 1 = 5000000 }; at = ms 1160 }
 
--- ---- How far off: SYNC 0 is confirmed at once, and its copy comes E later; its copy comes at once, and it is confirmed C
--- later.
+-- ---- How far off: SYNC 0 is confirmed at once, and its copy comes E later; its copy comes at once, and it is
+-- confirmed C later.
 abbrev pub nearLink : Link
 nearLink = edgeWith 10 100 5 5
 

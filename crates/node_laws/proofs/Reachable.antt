@@ -150,12 +150,14 @@ module _ (n : Node) (r : Reachable n) where
 
   pub read-most :
       (domain : ℕ) (t : VirtualLocalTime) (shown : Shown) → nodeReadOf n domain t ≡ Time shown → IsRead (shown .time)
-  read-most domain = read-within (domain % places) (n .kept) (recordAt (n .domains) (domain % places)) (at domain) domain
+  read-most domain =
+      read-within (domain % places) (n .kept) (recordAt (n .domains) (domain % places)) (at domain) domain
 
   pub ovs-most :
       (domain : ℕ) (t : VirtualLocalTime) (counter length : ℕ) →
       nodeConfirmOf n domain t counter length .answer ≡ Refused Ovs → ⊥
-  ovs-most domain = call-ovs-within (domain % places) (n .kept) (recordAt (n .domains) (domain % places)) (at domain) domain
+  ovs-most domain =
+      call-ovs-within (domain % places) (n .kept) (recordAt (n .domains) (domain % places)) (at domain) domain
 
   pub counter-exact :
       (i : ℕ) → i < places →

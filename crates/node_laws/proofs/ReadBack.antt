@@ -69,7 +69,8 @@ sentBy d seconds =
       protection = protectionOf (d .settings .security) (d .settings .user .1);
     }
 
-sent-fits : (d : Domain) (t : VirtualLocalTime) → d .number < places → (s : Sync) → sendOf d t .answer ≡ Sent s → SyncFits s
+sent-fits :
+    (d : Domain) (t : VirtualLocalTime) → d .number < places → (s : Sync) → sendOf d t .answer ≡ Sent s → SyncFits s
 sent-fits d t h s =
     by-due (λ (due : Due). sendAs due d t .answer ≡ Sent s → SyncFits s) (d .settings .role) (d .settings .period)
     (d .base) (d .sending) t (λ e. let no : _≡_ {A = ℕ} 0 1 = cc in absurd (omega arith))

@@ -41,7 +41,8 @@ returns c =
     let refused = c .before .before .before in
     let made : (v : Verdict) → Node → NewNode = λ v n. record { verdict = v; node = n } in
     ap (made _)
-    (c .fresh-node .ensures ∙ ap (λ (s : DomainSettings). freshNode 1 (replicate places s)) (c .before .absent .ensures))
+    (c .fresh-node .ensures
+    ∙ ap (λ (s : DomainSettings). freshNode 1 (replicate places s)) (c .before .absent .ensures))
     ∙ as-judged (refused .before .before) _ (refused .refusal .given .1)
 
 returns-2 : tie.Need-returns-2
