@@ -8,16 +8,22 @@
 --   time-later         a base's time at a later reading is the earlier time plus the span
 --   time-exact         a base's time at t, in the range of the paper, is its time plus t minus its reading
 --   read-bound         and is at most what the paper allows for a read time
+--   within-told        a time that passes the test of a range is within it
+--   within-is          and one within it passes
 -- Assumes nothing.
 use Prim.Native.Nat.{ℕ, _+_, _-_, _*_, _/_, _%_, _^_, _≤_, _<_}
-use mathlib.Core.Path.{_≡_, sym, ap, ap₂, _∙_}
+use mathlib.Core.Path.{_≡_, refl, sym, ap, ap₂, _∙_}
+use mathlib.Core.Bool.{true}
 use native.Mathlib.Omega.{arith}
 use lib.Pow.{pow-mono, pow-pos}
+use lib.Dec.{leb}
+use borrow.Author.Tests.{leb-true, le-leb}
+use Rattle.promise.proofs.Tests.{both}
 use Rattle.clock.specs.declared.reading.VirtualLocalTime.{VirtualLocalTime}
 use Rattle.clock.specs.declared.time.GlobalTime.{GlobalTime}
 use Rattle.clock.specs.declared.base.TimeBase.{TimeBase}
 use Rattle.clock.specs.Reading.{spanOf}
-use Rattle.clock.specs.Time.{nanosecondsOf, IsReceived, IsRead, carried, advanced}
+use Rattle.clock.specs.Time.{nanosecondsOf, isTime, isWithin, Within, IsReceived, IsRead, carried, advanced}
 use Rattle.clock.specs.Base.{timeAt}
 
 -- ---- the carry, over the width w of the seconds
@@ -66,3 +72,14 @@ module _ (b : TimeBase) (t : VirtualLocalTime) (good : IsReceived (b .time))
 
   pub read-bound : IsRead (timeAt b t)
   read-bound = omega arith
+
+-- ---- the ranges
+
+module _ (seconds : ℕ) (g : GlobalTime) where
+  pub within-told : isWithin seconds g ≡ true → Within seconds g
+  within-told e =
+      let told = both (leb (g .0) seconds) (isTime g) e in
+      record { whole = leb-true _ _ (told .0); part = leb-true _ _ (told .1) }
+
+  pub within-is : Within seconds g → isWithin seconds g ≡ true
+  within-is w = rw (le-leb _ _ (w .whole), le-leb _ _ (w .part)) refl

@@ -10,7 +10,7 @@ use Rattle.clock.specs.declared.reading.VirtualLocalTime.{VirtualLocalTi
 use Rattle.clock.specs.declared.time.GlobalTime.{GlobalTime}
 use Rattle.clock.specs.declared.base.TimeBase.{TimeBase}
 use Rattle.clock.specs.Reading.{isReading, spanOf}
-use Rattle.clock.specs.Time.{isTime, advanced}
+use Rattle.clock.specs.Time.{isTime, isWithin, mostReceived, mostRead, advanced}
 use Rattle.clock.specs.Base.{baseOf, timeAt}
 
 pub is-reading-only : (t : VirtualLocalTime) → OnlyOne (λ (r : Bool). r ≡ isReading t)
@@ -21,6 +21,12 @@ since-only t earlier = equation-only _
 
 pub is-time-only : (g : GlobalTime) → OnlyOne (λ (r : Bool). r ≡ isTime g)
 is-time-only g = equation-only _
+
+pub is-received-only : (g : GlobalTime) → OnlyOne (λ (r : Bool). r ≡ isWithin mostReceived g)
+is-received-only g = equation-only _
+
+pub is-read-only : (g : GlobalTime) → OnlyOne (λ (r : Bool). r ≡ isWithin mostRead g)
+is-read-only g = equation-only _
 
 pub advance-only : (g : GlobalTime) (span : ℕ) → OnlyOne (λ (r : GlobalTime). r ≡ advanced g span)
 advance-only g span = equation-only _

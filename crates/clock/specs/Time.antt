@@ -1,6 +1,6 @@
 -- Paper 01, "Two clocks": global times, and their sum with a span. Assumes nothing.
 use Prim.Native.Nat.{ℕ, _+_, _-_, _*_, _/_, _%_, _^_, _≤_, min}
-use mathlib.Core.Bool.{Bool}
+use mathlib.Core.Bool.{Bool, _&&_}
 use lib.Dec.{leb}
 use Rattle.clock.specs.declared.time.GlobalTime.{GlobalTime}
 
@@ -28,6 +28,9 @@ mostReceived = 4294967298
 
 abbrev pub mostRead : ℕ
 mostRead = 5294967298
+
+abbrev pub isWithin : (seconds : ℕ) → GlobalTime → Bool
+isWithin seconds g = leb (g .0) seconds && isTime g
 
 pub record Within (seconds : ℕ) (g : GlobalTime) : Type 0 where
   pub whole : g .0 ≤ seconds

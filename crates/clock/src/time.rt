@@ -1,6 +1,6 @@
 // Global times (paper 01, "Two clocks"), and the time a span later.
 ghost use mathlib.Core.Path.{_≡_};
-ghost use Rattle.clock.specs.Time.{isTime, advanced};
+ghost use Rattle.clock.specs.Time.{isTime, isWithin, mostReceived, mostRead, advanced};
 
 // A global time: seconds, and nanoseconds.
 pub struct GlobalTime(pub u64, pub u32);
@@ -23,6 +23,30 @@ impl GlobalTime {
         ensures { λ r. ⌜ r ≡ isTime self ⌝ }
     {
         self.1 <= GlobalTime::NANOSECONDS_MAX
+    }
+
+    // Whether it is a time that can be received.
+    pub fn is_received(self) -> bool
+        ensures { λ r. ⌜ r ≡ isWithin mostReceived self ⌝ }
+    {
+        self.is_within(GlobalTime::RECEIVED_SECONDS_MAX)
+    }
+
+    // Whether it is a time that can be read.
+    pub fn is_read(self) -> bool
+        ensures { λ r. ⌜ r ≡ isWithin mostRead self ⌝ }
+    {
+        self.is_within(GlobalTime::READ_SECONDS_MAX)
+    }
+
+    fn is_within(self, seconds: u64) -> bool
+        ensures { λ r. ⌜ r ≡ isWithin seconds self ⌝ }
+    {
+        if self.0 <= seconds {
+            self.is_time()
+        } else {
+            false
+        }
     }
 
     // The time a span of nanoseconds later.

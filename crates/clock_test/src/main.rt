@@ -39,6 +39,11 @@ fn limits() {
     nanoseconds(999_999_999);
     nanoseconds(1_000_000_000);
     nanoseconds(u32::MAX);
+    ranges(GlobalTime(4_294_967_298, 999_999_999));
+    ranges(GlobalTime(4_294_967_299, 0));
+    ranges(GlobalTime(4_294_967_298, 1_000_000_000));
+    ranges(GlobalTime(5_294_967_298, 999_999_999));
+    ranges(GlobalTime(5_294_967_299, 0));
 }
 
 fn reading(t: u64) {
@@ -51,6 +56,15 @@ fn nanoseconds(n: u32) {
     word(b"nanoseconds");
     number(n as u64);
     answer(GlobalTime(0, n).is_time());
+}
+
+// Whether a time can be received, and whether it can be read.
+fn ranges(time: GlobalTime) {
+    word(b"ranges");
+    number(time.0);
+    number(time.1 as u64);
+    yes_no(time.is_received());
+    answer(time.is_read());
 }
 
 fn spans() {

@@ -2,6 +2,7 @@
 --   either        what holds of both branches of a test holds of what the test picks
 --   either-told   so does what holds of each branch where the test says so
 --   both          two tests that hold together hold each
+--   refuted       a test that cannot hold says no
 -- Assumes nothing.
 use mathlib.Core.Path.{_≡_, refl}
 use mathlib.Core.Bool.{Bool, true, false, cond, _&&_}
@@ -18,3 +19,7 @@ either-told P false p q = q refl
 pub both : (a b : Bool) → (a && b) ≡ true → (a ≡ true) × (b ≡ true)
 both true b e = (refl, e)
 both false b e = (e, cc)
+
+pub refuted : (b : Bool) → (b ≡ true → ⊥) → false ≡ b
+refuted true never = absurd (never refl)
+refuted false never = refl

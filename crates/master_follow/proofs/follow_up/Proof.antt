@@ -1,10 +1,17 @@
 -- `master_follow::follow_up` meets its contract: at each return the arm and the tests that led
 -- there decide the definition's.
 -- Assumes nothing.
+use mathlib.Core.Path.{_≡_}
+use native.Mathlib.Omega.{arith}
 use borrow.Author.Tests.{le-leb, lt-leb, eq-eqb, ne-eqb, not-true, not-false}
 use borrow.Author.Needs.{needs}
 use Rattle.master_follow.proofs.follow_up.Statement.{statement}
 use Rattle.master_follow.proofs.follow_up.Tie as tie
+
+-- the open SYNC's counter is the one confirmed
+confirmed :
+    (c : tie.Else1) → c .before .before .sending .given .0 .0 ≡ c .before .before .before .before .args .counter
+confirmed c = omega (arith, c .if1 .left)
 
 enum-told : tie.Need-enum-told
 enum-told c = search needs
@@ -23,7 +30,7 @@ returns-2 c =
     let same = c .before .before in
     rw (
       same .before .before .sending .given .1,
-      eq-eqb _ _ (same .if1 .left),
+      eq-eqb _ _ (confirmed same),
       lt-leb _ _ (rw (c .before .since .ensures) at (c .if2 .taken)),
     )
 
@@ -34,7 +41,7 @@ returns-3 c =
     let same = at .before in
     rw (
       same .before .before .sending .given .1,
-      eq-eqb _ _ (same .if1 .left),
+      eq-eqb _ _ (confirmed same),
       le-leb _ _ (rw (at .since .ensures) at (young .if2 .left)),
       not-true (same .before .before .before .before .args .room) (c .if3 .taken),
     )
@@ -59,7 +66,7 @@ returns-5 c =
     let same = at .before in
     rw (
       same .before .before .sending .given .1,
-      eq-eqb _ _ (same .if1 .left),
+      eq-eqb _ _ (confirmed same),
       le-leb _ _ (rw (at .since .ensures) at (young .if2 .left)),
       not-false (same .before .before .before .before .args .room) (roomy .if3 .left),
     )

@@ -52,10 +52,10 @@ abbrev told :
 told c = told-ahead _ _ _ (sym (c .before .m .given .1) ∙ c .before .before .before .compare .ensures)
 
 returns-2 : tie.Need-returns-2
-returns-2 c = same _ _ _ (told (c .before)) (c .if1 .taken)
+returns-2 c = same _ _ _ (told (c .before)) (omega (arith, c .if1 .taken))
 
 returns-3 : tie.Need-returns-3
-returns-3 c = later _ _ _ (told (c .before)) (c .if1 .left)
+returns-3 c = later _ _ _ (told (c .before)) (λ e. omega (arith, c .if1 .left))
 
 pub order-spec : {M : Type 1} → statement M
 order-spec =

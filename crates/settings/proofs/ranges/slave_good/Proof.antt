@@ -1,82 +1,86 @@
--- `settings::ranges::slave_good` meets its contract: at each return the tests
--- that led there decide the conjunction.
---   jump, follow, loss   the conjunction's start, after the second, fourth and sixth test
+-- `settings::ranges::slave_good` meets its contract: the test that led to a refusal is out of a range, and where none
+-- did the last range decides.
 -- Assumes nothing.
+use Prim.Native.Nat.{_≤_, _<_}
 use mathlib.Core.Path.{_≡_}
-use mathlib.Core.Bool.{Bool, true, _&&_}
-use lib.Dec.{leb, ltb}
-use borrow.Author.Tests.{le-leb, le-ltb, lt-leb, lt-ltb}
+use mathlib.Core.Bool.{false}
+use native.Mathlib.Omega.{arith}
+use lib.Dec.{leb}
+use borrow.Author.Tests.{le-leb, lt-ltb}
+use Rattle.promise.proofs.Tests.{refuted}
 use Rattle.settings.specs.declared.domain_settings.DomainSettings.{DomainSettings}
-use Rattle.settings.specs.Ranges.{within}
+use Rattle.settings.specs.Ranges.{slaveGood}
+use Rattle.settings.proofs.ranges.Laws.{SlaveRange, slave-range}
 use Rattle.settings.proofs.ranges.slave_good.Statement.{statement}
 use Rattle.settings.proofs.ranges.slave_good.Tie as tie
 
-abbrev jumpGood : DomainSettings → Bool
-jumpGood s = within 1 15 (s .«jump_width»)
+refused : (s : DomainSettings) → (SlaveRange s → ⊥) → false ≡ slaveGood s
+refused s never = refuted (slaveGood s) (λ e. never (slave-range s e))
 
-abbrev followGood : DomainSettings → Bool
-followGood s = jumpGood s && within 1 10000000000 (s .«follow_up_time»)
+-- all but the last
+record InRange (s : DomainSettings) : Type 0 where
+  jump : (1 ≤ s .«jump_width») × (s .«jump_width» ≤ 15)
+  follow : (1 ≤ s .«follow_up_time») × (s .«follow_up_time» ≤ 10000000000)
+  loss : (s .«follow_up_time» < s .«loss_time») × (s .«loss_time» ≤ 1000000000000)
+  future : s .«future_threshold» ≤ 1000000000000
 
-abbrev lossGood : DomainSettings → Bool
-lossGood s = followGood s && ltb (s .«follow_up_time») (s .«loss_time») && leb (s .«loss_time») 1000000000000
-
-jump : (c : tie.Else2) → jumpGood (c .before .before .before .before .args .settings) ≡ true
-jump c = rw (le-leb _ _ (c .before .before .if1 .left), le-leb _ _ (c .if2 .left))
-
-follow :
-    (c : tie.Else4) → let two = c .before .before .before .before in
-    followGood (two .before .before .before .before .args .settings) ≡ true
-follow c =
+last : (s : DomainSettings) → InRange s → leb (s .«past_threshold») 1000000000000 ≡ slaveGood s
+last s r =
     rw (
-      jump (c .before .before .before .before),
-      le-leb _ _ (c .before .before .if3 .left),
-      le-leb _ _ (c .if4 .left),
+      le-leb _ _ (r .jump .0),
+      le-leb _ _ (r .jump .1),
+      le-leb _ _ (r .follow .0),
+      le-leb _ _ (r .follow .1),
+      lt-ltb _ _ (r .loss .0),
+      le-leb _ _ (r .loss .1),
+      le-leb _ _ (r .future),
     )
 
-loss :
-    (c : tie.Else6) → let four = c .before .before .before .before in
-    let two = four .before .before .before .before in
-    lossGood (two .before .before .before .before .args .settings) ≡ true
-loss c =
-    rw (
-      follow (c .before .before .before .before),
-      lt-ltb _ _ (c .before .before .if5 .left),
-      le-leb _ _ (c .if6 .left),
-    )
+-- the settings, after each test
+abbrev first : tie.Else1 → DomainSettings
+first c = c .before .before .args .settings
+
+abbrev second : tie.Else2 → DomainSettings
+second c = first (c .before .before)
+
+abbrev third : tie.Else3 → DomainSettings
+third c = second (c .before .before)
+
+abbrev fourth : tie.Else4 → DomainSettings
+fourth c = third (c .before .before)
+
+abbrev fifth : tie.Else5 → DomainSettings
+fifth c = fourth (c .before .before)
+
+abbrev sixth : tie.Else6 → DomainSettings
+sixth c = fifth (c .before .before)
+
+abbrev seventh : tie.Else7 → DomainSettings
+seventh c = sixth (c .before .before)
 
 returns : tie.Need-returns
-returns c = simp (lt-leb _ _ (c .if1 .taken))
+returns c = refused (c .before .before .args .settings) (λ r. omega (arith, c .if1 .taken))
 
 returns-2 : tie.Need-returns-2
-returns-2 c = simp (le-leb _ _ (c .before .before .if1 .left), lt-leb _ _ (c .if2 .taken))
+returns-2 c = refused (first (c .before .before)) (λ r. omega (arith, c .if2 .taken))
 
 returns-3 : tie.Need-returns-3
-returns-3 c = simp (jump (c .before .before), lt-leb _ _ (c .if3 .taken))
+returns-3 c = refused (second (c .before .before)) (λ r. omega (arith, c .if3 .taken))
 
 returns-4 : tie.Need-returns-4
-returns-4 c =
-    simp (
-      jump (c .before .before .before .before),
-      le-leb _ _ (c .before .before .if3 .left),
-      lt-leb _ _ (c .if4 .taken),
-    )
+returns-4 c = refused (third (c .before .before)) (λ r. omega (arith, c .if4 .taken))
 
 returns-5 : tie.Need-returns-5
-returns-5 c = simp (follow (c .before .before), le-ltb _ _ (c .if5 .taken))
+returns-5 c = refused (fourth (c .before .before)) (λ r. omega (arith, c .if5 .taken))
 
 returns-6 : tie.Need-returns-6
-returns-6 c =
-    simp (
-      follow (c .before .before .before .before),
-      lt-ltb _ _ (c .before .before .if5 .left),
-      lt-leb _ _ (c .if6 .taken),
-    )
+returns-6 c = refused (fifth (c .before .before)) (λ r. omega (arith, c .if6 .taken))
 
 returns-7 : tie.Need-returns-7
-returns-7 c = simp (loss (c .before .before), lt-leb _ _ (c .if7 .taken))
+returns-7 c = refused (sixth (c .before .before)) (λ r. omega (arith, c .if7 .taken))
 
 returns-8 : tie.Need-returns-8
-returns-8 c = rw (loss (c .before .before .before), le-leb _ _ (c .before .if7 .left))
+returns-8 c = last (seventh (c .before)) (omega arith)
 
 pub slave-good-spec : {M : Type 1} → statement M
 slave-good-spec =
