@@ -2,6 +2,7 @@
 -- cites this file.
 --   linked-by   a link, from its parts
 --   fair        a history that passes the test at each of its calls is fair
+--   all-same    sendings that are the same one by one are the same list
 --   held-met    what is gathered of the first sentence is all that it asks
 --   taken-met   what is gathered of the last sentence is all that it asks, but for the moment
 --   never-set   a base that is unset after each part of a history was never set
@@ -230,6 +231,37 @@ not-of-one k h b fall e one =
     let given =
     is-given k b (one .newer) (one .fup) (one .sync) (one .older) (one .is-fup) (one .time) (rw (first, soon) refl) in
     true≢false (sym given ∙ ap (isGiven k b) (sym (one .sent)) ∙ e)
+
+-- ---- the same sendings, one by one
+abbrev isSame : Sent → Sent → Bool
+isSame s s′ = same (s .bytes) (s′ .bytes) && eqb (s .at .0) (s′ .at .0) && isTime (s .time) (s′ .time)
+
+same-sent : (s s′ : Sent) → isSame s s′ ≡ true → s ≡ s′
+same-sent s s′ e =
+    let three = both (same (s .bytes) (s′ .bytes) && eqb (s .at .0) (s′ .at .0)) (isTime (s .time) (s′ .time)) e in
+    let two = both (same (s .bytes) (s′ .bytes)) (eqb (s .at .0) (s′ .at .0)) (three .0) in
+    let times = both (eqb (s .time .0) (s′ .time .0)) (eqb (s .time .1) (s′ .time .1)) (three .1) in
+    let bytes = same-true (s .bytes) (s′ .bytes) (two .0) in
+    let at = eqb-true (s .at .0) (s′ .at .0) (two .1) in
+    let seconds = eqb-true (s .time .0) (s′ .time .0) (times .0) in
+    let nanoseconds = eqb-true (s .time .1) (s′ .time .1) (times .1) in
+    λ i. record { bytes = bytes i; at = record { 0 = at i }; time = record { 0 = seconds i; 1 = nanoseconds i } }
+
+abbrev pub allSame : List Sent → List Sent → Bool
+allSame [] [] = true
+allSame [] (s ∷ m) = false
+allSame (s ∷ l) [] = false
+allSame (s ∷ l) (s′ ∷ m) = isSame s s′ && allSame l m
+
+pub all-same : (l m : List Sent) → allSame l m ≡ true → l ≡ m
+all-same [] [] e = refl
+all-same [] (s ∷ m) e = cc
+all-same (s ∷ l) [] e = cc
+all-same (s ∷ l) (s′ ∷ m) e =
+    let told = both (isSame s s′) (allSame l m) e in
+    let head = same-sent s s′ (told .0) in
+    let tail = all-same l m (told .1) in
+    cc
 
 -- ---- a base that was never set
 abbrev isUnset : Held → Bool
