@@ -4,22 +4,32 @@
 --   second-numbers  what its calls are answered
 --   second-updates  eighteen pairs are taken
 --   second-same     SYNC 16 has the bytes of SYNC 0
+--   second-verdicts SYNC 0 is taken as no counter is known, all others by their counters
 --   second-wrap     SYNC 16 comes within L of SYNC 15, its counter 0 after 15
 --   second-of-one   so the time is of one SYNC
 --   second-near     and as near as is said
 --   second-pair     and the pair is taken
+--   late-by-one     the last FUP arrives 1 ns more than the follow-up time after its SYNC
+--   late-not-taken  and its pair is not taken
+--   late-exceeded   so the last sentence is false for FUPs that are up to 1 ns later
 -- Assumes nothing.
-use mathlib.Core.Path.{_≡_, refl}
-use mathlib.Core.Bool.{true}
+use Prim.Native.Nat.{_+_}
+use mathlib.Core.Path.{_≡_, refl, sym, ap, _∙_}
+use mathlib.Core.Bool.{Bool, true, not, false≢true}
 use mathlib.Core.List.{[], _∷_}
 use native.Mathlib.Omega.{arith}
+use lib.Dec.{eqb}
+use Rattle.clock.specs.declared.reading.VirtualLocalTime.{VirtualLocalTime}
+use Rattle.clock.specs.declared.base.Held.{Held}
+use Rattle.clock.specs.declared.base.Held.the-variants.{Unset, Set}
+use Rattle.clock.specs.Reading.{spanOf}
 use Rattle.round.specs.Round.{goes}
-use Rattle.history.specs.History.{slaveRecord, sentIn}
+use Rattle.history.specs.History.{slaveSettings, slaveRecord, sentIn}
 use Rattle.history.specs.Demand.{Linked, sentSince, sendings, Orderly, TimeOfOne, Near, Taken, Fair}
 use Rattle.history.proofs.Held.{each-time-held}
 use Rattle.history.proofs.One.{each-time-near}
 use Rattle.history.proofs.Taken.{each-pair-taken}
-use Rattle.history_day.specs.Met.{HeldMet, PairMet, numbersIn}
+use Rattle.history_day.specs.Met.{HeldMet, PairMet, TakenUntil, numbersIn}
 use Rattle.history_day.specs.Second.{
   secondLink,
   copySync,
@@ -30,11 +40,24 @@ use Rattle.history_day.specs.Second.{
   second,
   secondMoment,
   secondCopies,
+  copiesAfter,
   secondNumbers,
   secondBase,
+  verdictsIn,
+  secondVerdicts,
   NextWithin,
 }
-use Rattle.history_day.proofs.Tests.{linked-by, fair, allFit, all-same, allSame, held-met, taken-met}
+use Rattle.history_day.proofs.Tests.{
+  linked-by,
+  fair,
+  allFit,
+  all-same,
+  allSame,
+  held-met,
+  taken-met,
+  everyBase,
+  every-base,
+}
 
 linked : Linked secondLink
 linked = linked-by _ (omega arith) refl refl refl refl refl refl
@@ -55,23 +78,21 @@ second-held =
       holds = refl;
     }
 
-all : allSame (sentSince secondLink secondMoment (sentIn secondLink second)) (sendings secondCopies) ≡ true
+sent-all : allSame (sentSince secondLink secondMoment (sentIn secondLink second)) (sendings secondCopies) ≡ true
 unfolding goes
-all = refl
+sent-all = refl
 
 orderly : Orderly secondLink secondMoment second
 orderly =
     record {
       under-way = [];
       copies = secondCopies;
-      all = all-same (sentSince secondLink secondMoment (sentIn secondLink second)) (sendings secondCopies) all;
+      all = all-same (sentSince secondLink secondMoment (sentIn secondLink second)) (sendings secondCopies) sent-all;
       only = refl;
     }
 
 pub second-taken :
-    PairMet secondLink second secondMoment (lateFup ∷ copySync 18 ∷ copyFup 17 ∷ copySync 17 ∷ []) (copyFup 16)
-    (copySync 16)
-    (copies 16)
+    PairMet secondLink second secondMoment copiesAfter (copyFup 16) (copySync 16) (copies 16)
 unfolding orderly
 second-taken =
     record {
@@ -93,6 +114,10 @@ second-updates = refl
 pub second-same : copySync 16 .of .bytes ≡ copySync 0 .of .bytes
 second-same = refl
 
+pub second-verdicts : verdictsIn secondLink second ≡ secondVerdicts
+unfolding goes
+second-verdicts = refl
+
 pub second-wrap : NextWithin secondLink (arriving 12) 15 (copySync 15 .at) (copySync 16)
 unfolding goes
 second-wrap = record { seen = refl; within = omega arith; next = refl }
@@ -107,9 +132,35 @@ second-near =
 
 pub second-pair : Taken secondLink secondMoment second (copyFup 16) (copySync 16) (copies 16)
 second-pair =
-    taken-met each-pair-taken secondLink second secondMoment (lateFup ∷ copySync 18 ∷ copyFup 17 ∷ copySync 17 ∷ [])
-    (copyFup 16)
-    (copySync 16)
-    (copies 16)
+    taken-met each-pair-taken secondLink second secondMoment copiesAfter (copyFup 16) (copySync 16) (copies 16)
     second-taken
     (omega arith)
+
+-- ---- the late FUP
+pub late-by-one :
+    spanOf (copySync 18 .at) (lateFup .at) ≡ slaveSettings secondLink .«follow_up_time» + 1
+late-by-one = refl
+
+abbrev isNotAt : VirtualLocalTime → Held → Bool
+isNotAt t Unset = true
+isNotAt t (Set b) = not (eqb (b .at .0) (t .0))
+
+late-never : everyBase (isNotAt (copySync 18 .at)) secondLink second ≡ true
+unfolding goes
+late-never = refl
+
+pub late-not-taken : Taken secondLink secondMoment second lateFup (copySync 18) (copies 18) → ⊥
+late-not-taken t =
+    let test = isNotAt (copySync 18 .at) in
+    false≢true
+    (ap test (sym (t .base))
+    ∙ every-base test secondLink (t .after) _ (t .before)
+    (ap (everyBase test secondLink) (sym (t .call)) ∙ late-never))
+
+pub late-exceeded : TakenUntil 1 → ⊥
+unfolding orderly
+late-exceeded each =
+    late-not-taken
+    (each secondLink second second-fair secondMoment orderly [] (copies 18) lateFup (copySync 18) refl refl
+    (omega arith)
+    (omega arith))

@@ -2,9 +2,11 @@
 -- cites this file.
 --   linked-by   a link, from its parts
 --   fair        a history that passes the test at each of its calls is fair
---   all-same    sendings that are the same one by one are the same list
 --   held-met    what is gathered of the first sentence is all that it asks
 --   taken-met   what is gathered of the last sentence is all that it asks, but for the moment
+--   taken-until the last sentence is the one where FUPs may be no later
+--   all-same    lists whose sendings are the same one by one are the same
+--   every-base  a base passes a test after a part of a history where it does after every part
 --   never-set   a base that is unset after each part of a history was never set
 --   not-of-one  a base is of no SYNC where no FUP gives its time with the SYNC before it, or no copy of that SYNC can
 --               have come at its reading
@@ -65,7 +67,7 @@ use Rattle.history.specs.Demand.{
   Fair,
 }
 use Rattle.history.proofs.One.{not-after}
-use Rattle.history_day.specs.Met.{HeldMet, TakenFrom}
+use Rattle.history_day.specs.Met.{HeldMet, TakenFrom, TakenUntil}
 
 -- ---- a heard frame is a copy of one of the frames sent
 abbrev same : List ℕ → List ℕ → Bool
@@ -192,6 +194,12 @@ taken-met each k h moment newer fup sync older m late =
     each k (m .fair .linked) h (m .fair .calls) (m .fair .never-fall) (m .fair .in-range) moment (m .orderly)
     newer older fup sync (m .copies) (m .is-fup) (m .soon) (omega arith)
 
+pub taken-until : EachPairTaken → TakenUntil 0
+taken-until each k h f moment o newer older fup sync copies is-fup soon late =
+    each k (f .linked) h (f .calls) (f .never-fall) (f .in-range) moment o newer older fup sync copies is-fup
+    (omega (arith, soon))
+    late
+
 -- ---- a FUP and the SYNC before it give the time, and a copy of that SYNC can have come at its reading
 abbrev isTime : GlobalTime → GlobalTime → Bool
 isTime g g′ = eqb (g .0) (g′ .0) && eqb (g .1) (g′ .1)
@@ -263,22 +271,27 @@ all-same (s ∷ l) (s′ ∷ m) e =
     let tail = all-same l m (told .1) in
     cc
 
--- ---- a base that was never set
+-- ---- what each base passes, and a base that was never set
+abbrev pub everyBase : (Held → Bool) → Link → History → Bool
+everyBase test k [] = test (slaveRecord k [] .base)
+everyBase test k (x ∷ h) = test (slaveRecord k (x ∷ h) .base) && everyBase test k h
+
+pub every-base :
+    (test : Held → Bool) (k : Link) (after : History) (x : Event) (before : History) →
+    everyBase test k (after ++ (x ∷ before)) ≡ true → test (slaveRecord k (x ∷ before) .base) ≡ true
+every-base test k [] x before e = both (test (slaveRecord k (x ∷ before) .base)) (everyBase test k before) e .0
+every-base test k (y ∷ after) x before e =
+    let rest = after ++ (x ∷ before) in
+    every-base test k after x before (both (test (slaveRecord k (y ∷ rest) .base)) (everyBase test k rest) e .1)
+
 abbrev isUnset : Held → Bool
 isUnset Unset = true
 isUnset (Set b) = false
 
 abbrev pub neverSet : Link → History → Bool
-neverSet k [] = isUnset (slaveRecord k [] .base)
-neverSet k (x ∷ h) = isUnset (slaveRecord k (x ∷ h) .base) && neverSet k h
-
-set-unset : (held : Held) (b : TimeBase) → isUnset held ≡ true → held ≡ Set b → ⊥
-set-unset held b e p = false≢true (ap isUnset (sym p) ∙ e)
+neverSet = everyBase isUnset
 
 pub never-set :
     (k : Link) (after : History) (x : Event) (before : History) (b : TimeBase) →
     neverSet k (after ++ (x ∷ before)) ≡ true → slaveRecord k (x ∷ before) .base ≡ Set b → ⊥
-never-set k [] x before b e = set-unset (slaveRecord k (x ∷ before) .base) b (both _ (neverSet k before) e .0)
-never-set k (y ∷ after) x before b e =
-    let rest = after ++ (x ∷ before) in
-    never-set k after x before b (both (isUnset (slaveRecord k (y ∷ rest) .base)) (neverSet k rest) e .1)
+never-set k after x before b e p = false≢true (ap isUnset (sym p) ∙ every-base isUnset k after x before e)

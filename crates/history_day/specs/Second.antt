@@ -1,19 +1,24 @@
--- Demand 3 of paper 01: a day within one second, at its bounds. Nineteen SYNCs have the same seconds, so SYNC 16 has the
--- bytes of SYNC 0. Each is confirmed C after its sending, its copy arrives E after its sending, and its FUP F after that.
--- Each but the first is taken by its counter, over the wrap from 15 to 0. Only the last FUP comes 1 ns too late.
--- Assumes nothing.
+-- Demand 3 of paper 01: a day within one second, at the bounds. Nineteen SYNCs have the same seconds, so SYNC 16 has
+-- the bytes of SYNC 0. Each is confirmed C after its sending; its copy arrives E after its sending, and its FUP F after
+-- that, but the last FUP 1 ns later. Each but the first is taken by its counter, over the wrap from 15 to 0. Assumes
+-- nothing.
 use Prim.Native.Nat.{ℕ, zero, suc, _+_, _*_, _%_, _≤_}
 use mathlib.Core.Path.{_≡_}
+use mathlib.Core.Bool.{cond}
 use mathlib.Core.List.{List, [], _∷_, _++_}
-use lib.ListN.{replicate}
+use lib.Dec.{eqb}
+use lib.ListN.{getD, replicate}
 use Rattle.clock.specs.declared.reading.VirtualLocalTime.{VirtualLocalTime}
 use Rattle.clock.specs.declared.base.TimeBase.{TimeBase}
 use Rattle.clock.specs.Reading.{spanOf}
-use Rattle.frame.specs.ByteTwo.{counters}
+use Rattle.frame.specs.ByteTwo.{counters, counterOf}
 use Rattle.frame_write.specs.Write.{restOf}
 use Rattle.domain.specs.declared.LastSync.the-variants.{Seen}
-use Rattle.node_call.specs.Calls.{frame}
-use Rattle.history.specs.History.{Link, slaveSettings, Event, atSlave, History, slaveRecord, counterIn}
+use Rattle.slave_counter.specs.declared.CounterVerdict.{CounterVerdict}
+use Rattle.slave_counter.specs.declared.CounterVerdict.the-variants.{Free, Good}
+use Rattle.slave_counter.specs.Counter.{verdictOf}
+use Rattle.node_call.specs.Calls.{Call, frame, read, set, cycle, confirm}
+use Rattle.history.specs.History.{Link, slaveSettings, Event, atMaster, atSlave, History, slaveRecord, counterIn}
 use Rattle.history.specs.Demand.{Copy}
 use Rattle.history_day.specs.Settings.{confirmsIn, copyOf, millis, plainLink, sets, syncAfter}
 
@@ -31,7 +36,7 @@ copyFup n =
     copyOf (0x18 ∷ 0x00 ∷ restOf (n % counters) 0x00 (millis (5 + 10 * n))) (1005 + 10 * n) (1158 + 10 * n)
     1000 (millis (5 + 10 * n))
 
--- ---- FUP 18, so much after F
+-- ---- FUP 18, 1 ns later than F after its SYNC
 abbrev pub lateFup : Copy
 lateFup = record { of = copyFup 18 .of; at = record { 0 = copyFup 18 .at .0 + 1 } }
 
@@ -75,6 +80,10 @@ secondMoment = millis 1000
 abbrev pub secondCopies : List Copy
 secondCopies = lateFup ∷ copySync 18 ∷ copies 18
 
+-- those after pair 16
+abbrev pub copiesAfter : List Copy
+copiesAfter = lateFup ∷ copySync 18 ∷ copyFup 17 ∷ copySync 17 ∷ []
+
 -- ---- What the calls are answered: 7 to the late FUP, 0 to all others.
 abbrev pub secondNumbers : List ℕ
 secondNumbers = 7 ∷ replicate 76 0
@@ -83,8 +92,31 @@ secondNumbers = 7 ∷ replicate 76 0
 abbrev pub secondBase : TimeBase
 secondBase = record { time = record { 0 = 1000; 1 = millis 175 }; at = copySync 17 .at }
 
--- ---- A SYNC that comes when the SYNC accepted last is at most L old: the counter of the one is that of the other plus 1,
--- modulo 16.
+-- ---- How the counter of each SYNC that comes is judged: `Good` is 1 to J after the last one, within L; `Free` is
+-- where any counter is good.
+abbrev verdictBy : Link → History → Call → List CounterVerdict
+verdictBy k before (frame t bytes) =
+    cond (eqb (getD bytes 0 0) 0x10)
+    (verdictOf (slaveSettings k .«jump_width») (slaveSettings k .«loss_time») (slaveRecord k before .last)
+    (counterOf (getD bytes 2 0))
+    t
+    ∷ [])
+    []
+verdictBy k before (read domain t) = []
+verdictBy k before (set domain t s ns) = []
+verdictBy k before (cycle t out) = []
+verdictBy k before (confirm domain t counter out) = []
+
+abbrev pub verdictsIn : Link → History → List CounterVerdict
+verdictsIn k [] = []
+verdictsIn k (atMaster c ∷ h) = verdictsIn k h
+verdictsIn k (atSlave c ∷ h) = verdictBy k h c ++ verdictsIn k h
+
+-- SYNC 0, when none is known; all others by their counters
+abbrev pub secondVerdicts : List CounterVerdict
+secondVerdicts = replicate 18 Good ++ (Free ∷ [])
+
+-- ---- A SYNC that comes at most L after the SYNC accepted last, with the next counter.
 pub record NextWithin (k : Link) (before : History) (last : ℕ) (at : VirtualLocalTime) (sync : Copy) : Type 0 where
   pub seen : slaveRecord k before .last ≡ Seen last at
   pub within : spanOf at (sync .at) ≤ slaveSettings k .«loss_time»

@@ -1,5 +1,5 @@
--- Paper 01, "Settings of a node": those of the days and of the edges; a reading in milliseconds, and the calls that they
--- share. Assumes nothing.
+-- Paper 01, "Settings of a node": those of the days and of the edges; a reading in milliseconds, and the calls that
+-- they share. Assumes nothing.
 use Prim.Native.Nat.{ℕ, _+_, _*_}
 use mathlib.Core.List.{List}
 use lib.ListN.{replicate, set as put}
