@@ -19,13 +19,15 @@ use native.Mathlib.Nat.{add-mod-mod, add-mod-right, mod-eq-of-lt}
 use lib.Dec.{leb, eqb}
 use lib.IntN.{ℤ, pos}
 use lib.ListN.{length, getD}
+use borrow.Author.Tests.{leb-true}
 use Rattle.promise.proofs.Tests.{either, either-told, both}
 use Rattle.clock.specs.declared.reading.VirtualLocalTime.{VirtualLocalTime}
 use Rattle.clock.specs.declared.time.GlobalTime.{GlobalTime}
 use Rattle.clock.specs.declared.base.TimeBase.{TimeBase}
 use Rattle.clock.specs.declared.base.Held.{Held}
 use Rattle.clock.specs.declared.base.Held.the-variants.{Unset, Set}
-use Rattle.clock.specs.Time.{nanosecondsOf, IsSet, IsReceived, IsRead}
+use Rattle.clock.specs.Reading.{isReading}
+use Rattle.clock.specs.Time.{IsSet, IsReceived, IsRead}
 use Rattle.clock.specs.Base.{timeAt}
 use Rattle.clock.proofs.Laws.{time-exact, read-bound}
 use Rattle.clock.proofs.difference.Laws.{difference-read}
@@ -37,7 +39,6 @@ use Rattle.frame.specs.declared.types.FrameType.the-variants.{
   SecuredFup,
   Unknown as no-type,
 }
-use Rattle.frame.specs.declared.values.Sync.{Sync}
 use Rattle.frame.specs.declared.values.Fup.{Fup}
 use Rattle.frame.specs.declared.values.Frame.{Frame}
 use Rattle.frame.specs.declared.values.Frame.the-variants.{Sync as sync, Fup as fup}
@@ -58,14 +59,13 @@ use Rattle.settings.proofs.ranges.Laws.{master-range}
 use Rattle.admission.specs.declared.Admission.{Admission}
 use Rattle.admission.specs.declared.Needed.the-variants.{Slave as slave, Master as master, Either}
 use Rattle.admission.specs.declared.frames.FrameAdmission.{FrameAdmission}
-use Rattle.admission.specs.declared.frames.FrameAdmission.the-variants.{Admitted, Refused}
+use Rattle.admission.specs.declared.frames.FrameAdmission.the-variants.{Refused}
 use Rattle.admission.specs.Reading.{isGoodReading}
 use Rattle.admission.specs.Admission.{isIn, isFor}
 use Rattle.admission.specs.FrameAdmission.{readFor}
 use Rattle.admission.proofs.Laws.{Tested, good-reading, by-admission, slave-admitted, master-admitted}
 use Rattle.domain.specs.declared.Domain.{Domain}
 use Rattle.domain.specs.declared.Pair.{Pair}
-use Rattle.domain.specs.declared.Pairing.{Pairing}
 use Rattle.domain.specs.declared.Pairing.the-variants.{Open as open-pair}
 use Rattle.domain.specs.declared.LastSync.{LastSync}
 use Rattle.domain.specs.declared.LastSync.the-variants.{Seen}
@@ -75,9 +75,9 @@ use Rattle.slave_counter.specs.Counter.{jumpOf}
 use Rattle.slave_counter.proofs.Laws.{jump-exact}
 use Rattle.slave_pair.specs.declared.joining.Joined.{Joined}
 use Rattle.slave_pair.proofs.Laws.{Joins, by-joined}
-use Rattle.slave_answer.specs.declared.FrameAnswer.{FrameAnswer}
 use Rattle.slave_answer.specs.declared.FrameAnswer.the-variants.{Updated}
 use Rattle.slave_answer.specs.declared.FrameStep.{FrameStep}
+use Rattle.slave_answer.specs.Answer.{refusedOf}
 use Rattle.slave_update.specs.Update.{newBase, movedBy, updateOf}
 use Rattle.slave_update.proofs.Laws.{received-bound}
 use Rattle.slave_sync.specs.Sync.{takesSync}
@@ -94,7 +94,7 @@ use Rattle.master_confirm.specs.declared.ConfirmAnswer.the-variants.{Followed, 
 use Rattle.master_confirm.specs.Confirm.{confirmAs, confirmOf}
 use Rattle.call_frame.specs.FrameCall.{frameCallAs, frameCallOf}
 use Rattle.call_read.specs.declared.Shown.{Shown}
-use Rattle.call_read.specs.declared.ReadAnswer.the-variants.{Time}
+use Rattle.call_read.specs.declared.ReadAnswer.the-variants.{Time, Refused as not-shown}
 use Rattle.call_read.specs.ReadCall.{readAs, readCallAs, readCallOf}
 use Rattle.call_confirm.specs.ConfirmCall.{confirmCallAs, confirmCallOf}
 use Rattle.round.specs.Round.{goes}
@@ -125,7 +125,7 @@ use Rattle.node_laws.specs.Caps.{
   CapsExact,
 }
 use Rattle.node_laws.proofs.Bounds.{base-within, time-exact-here}
-use Rattle.node_laws.proofs.Reachable.{reachable-good, record-good}
+use Rattle.node_laws.proofs.Reachable.{reachable-good, counter-exact, round-exact}
 use Rattle.node_laws.proofs.Laws.{stored-at}
 use Rattle.node_laws.proofs.Witness.{is-call, bench-reached, bench-held}
 
@@ -170,7 +170,7 @@ jump-leads last new p q =
     in
     record {
       leads = arrived;
-      only = λ jump h. once last jump _ (h .below) (arrived .below) (h .new-one ∙ sym (arrived .new-one));
+      only = λ jump h. once last jump _ (omega arith) (omega arith) (h .new-one ∙ sym (arrived .new-one));
     }
 
 -- ---- what a good record holds, whatever its role
@@ -233,11 +233,13 @@ module _ (i : ℕ) (kept : VirtualLocalTime) (d : Domain) (g : RecordGood i kept
         let order : old .at .0 ≤ p .at .0 = subst (λ (l : LastSync). BaseBefore l (Set old)) seen first in
         let received = base-within i kept d g old set in
         let within : p .at .0 ≤ 1000000000000000000 = omega arith in
-        let new : IsReceived (newBase p f .time) = received-bound p f (omega (arith, pair-here i kept d g p there .0)) ovs ns in
+        let whole = pair-here i kept d g p there .0 in
+        let new : IsReceived (newBase p f .time) = received-bound p f (omega arith) ovs ns in
         let read : IsRead (newBase p f .time) = record { whole = omega (arith, new .whole); part = new .part } in
         record {
           time = omega (arith, time-exact old (p .at) received within);
-          difference = difference-read (newBase p f .time) (timeAt old (p .at)) read (read-bound old (p .at) received within);
+          difference =
+              difference-read (newBase p f .time) (timeAt old (p .at)) read (read-bound old (p .at) received within);
         }
 
   module _ (t : VirtualLocalTime) (bytes : List ℕ) (moved : ℤ) where
@@ -268,16 +270,16 @@ module _ (i : ℕ) (kept : VirtualLocalTime) (d : Domain) (g : RecordGood i kept
               (joined-moved is old p f was (told .held) ovs (told .in-range));
         }
 
+    refused-step : (refusal : Refusal) → StepMoves (refusedOf d refusal)
+    refused-step refusal e = let no : _≡_ {A = ℕ} 0 1 = cc in absurd (omega arith)
+
     kind-moves : d .settings .role ≡ Slave → (values : Frame) → Carried (Values values) → StepMoves (kindOf d t values)
     kind-moves is (sync s) c =
         either StepMoves (takesSync d t s) (λ e. let no : _≡_ {A = ℕ} 0 1 = cc in absurd (omega arith))
-        (λ e. let no : _≡_ {A = ℕ} 0 1 = cc in absurd (omega arith))
+        (refused-step _)
     kind-moves is (fup f) c =
         by-joined (λ (j : Joined). StepMoves (fupAs j d f)) (d .settings .«follow_up_time») (d .pairing) t f
-        (λ e. let no : _≡_ {A = ℕ} 0 1 = cc in absurd (omega arith))
-        (λ e. let no : _≡_ {A = ℕ} 0 1 = cc in absurd (omega arith))
-        (λ e. let no : _≡_ {A = ℕ} 0 1 = cc in absurd (omega arith))
-        (λ p told. fup-moves is f c p told (d .base) refl)
+        (refused-step _) (refused-step _) (refused-step _) (λ p told. fup-moves is f c p told (d .base) refl)
 
     refused-moves : (refusal : Refusal) → CallMoves (Refused refusal)
     refused-moves refusal e = let no : _≡_ {A = ℕ} 0 1 = cc in absurd (omega arith)
@@ -293,7 +295,7 @@ module _ (i : ℕ) (kept : VirtualLocalTime) (d : Domain) (g : RecordGood i kept
         (both (eqb (domainIn values) (d .number)) (isIn (d .settings .role) slave) for .1)
         in
         either StepMoves (isTaken (d .settings .mode) (d .settings .ids) bytes) (kind-moves is values c)
-        (λ e. let no : _≡_ {A = ℕ} 0 1 = cc in absurd (omega arith)))
+        (refused-step _))
         (λ e. refused-moves _)
 
     pub frame-moved :
@@ -310,18 +312,21 @@ module _ (i : ℕ) (kept : VirtualLocalTime) (d : Domain) (g : RecordGood i kept
       TimeExact (b .time) (b .at) (timeAt b t) t
   time-of-base b e le in-range = omega (arith, time-exact-here i kept d g b t e le in-range)
 
+  refused-shows :
+      (refusal : Refusal) (shown : Shown) → not-shown refusal ≡ Time shown → TimeOf (d .base) t (shown .time)
+  refused-shows refusal shown e = let no : _≡_ {A = ℕ} 0 1 = cc in absurd (omega arith)
+
   pub shown-exact :
       (asked : ℕ) (shown : Shown) → readCallOf d kept asked t ≡ Time shown → TimeOf (d .base) t (shown .time)
   shown-exact asked shown =
       by-admission (λ (a : Admission). readCallAs a d t ≡ Time shown → TimeOf (d .base) t (shown .time)) kept t
       (d .number) (d .settings .role) asked Either (λ tested. by-base tested (d .base) refl)
-      (λ e. let no : _≡_ {A = ℕ} 0 1 = cc in absurd (omega arith))
-      (λ e. let no : _≡_ {A = ℕ} 0 1 = cc in absurd (omega arith))
+      (refused-shows _ shown) (refused-shows _ shown)
     where
       by-base :
           Tested kept t (d .settings .role) Either → (h : Held) → d .base ≡ h → readAs h d t ≡ Time shown →
           TimeOf (d .base) t (shown .time)
-      by-base tested Unset is e = let no : _≡_ {A = ℕ} 0 1 = cc in absurd (omega arith)
+      by-base tested Unset is e = refused-shows _ shown e
       by-base tested (Set b) is e =
           let same : timeAt b t ≡ shown .time = cc in
           record {
@@ -390,10 +395,14 @@ module _ (i : ℕ) (kept : VirtualLocalTime) (d : Domain) (g : RecordGood i kept
         (λ (a : Admission). confirmCallAs a d kept t counter length .answer ≡ Followed f →
         Follows (d .sending) counter t f)
         kept t (d .number) (d .settings .role) asked master
-        (λ tested. step-follows (tested .not-before) (master-admitted (d .settings .role) (tested .in-role)) (leb 8 length))
+        (λ tested.
+        step-follows (tested .not-before) (master-admitted (d .settings .role) (tested .in-role)) (leb 8 length))
         (refused-follows _) (refused-follows _)
 
 -- ---- every reachable node
+
+not-before : (n : Node) (t : VirtualLocalTime) → Passes n t → n .kept .0 ≤ t .0
+not-before n t passes = let range = both (isReading t) _ passes in omega (arith, leb-true)
 
 pub caps-exact : (n : Node) → Reachable n → CapsExact n
 caps-exact n r =
@@ -403,7 +412,7 @@ caps-exact n r =
       spans =
           λ i h t at passes held.
           omega
-          (arith, good-reading (n .kept) t passes, held-before i (n .kept) _ (good .records i h) (good .kept) at held);
+          (arith, not-before n t passes, held-before i (n .kept) _ (good .records i h) (good .kept) at held);
       jumps =
           λ i h last at seen bytes s e.
           jump-leads last (s .counter) (seen-here i (n .kept) _ (good .records i h) last at seen .0)
@@ -428,6 +437,9 @@ caps-exact n r =
           λ domain t counter length f e.
           follow-exact (domain % places) (n .kept) _ (good .records (domain % places) (below domain)) t counter f domain
           length e;
+      counter = counter-exact n r;
+      round = round-exact n r;
+      sixteen = good .sixteen;
       place = λ bytes are. mod-eq-of-lt (omega (arith, byte-below bytes 2 are));
     }
 

@@ -6,6 +6,7 @@ use mathlib.Core.Path.{_≡_}
 use mathlib.Core.Bool.{true}
 use mathlib.Core.List.{List}
 use lib.IntN.{ℤ, subℕ}
+use lib.ListN.{length}
 use Rattle.clock.specs.declared.reading.VirtualLocalTime.{VirtualLocalTime}
 use Rattle.clock.specs.declared.time.GlobalTime.{GlobalTime}
 use Rattle.clock.specs.declared.base.TimeBase.{TimeBase}
@@ -51,8 +52,8 @@ pub data HeldAt (d : Domain) : VirtualLocalTime → Type 0 where
   of-last : (counter : ℕ) (at : VirtualLocalTime) → d .last ≡ Seen counter at → HeldAt d at
   of-pair : (p : Pair) → d .pairing ≡ open-pair p → HeldAt d (p .at)
   of-open :
-    (counter seconds nanoseconds : ℕ) (at : VirtualLocalTime) → d .sending ≡ Open counter seconds nanoseconds at →
-    HeldAt d at
+      (counter seconds nanoseconds : ℕ) (at : VirtualLocalTime) → d .sending ≡ Open counter seconds nanoseconds at →
+      HeldAt d at
   of-confirmed : (at : VirtualLocalTime) → d .sending ≡ Confirmed at → HeldAt d at
 
 -- ---- t passes number 1
@@ -103,7 +104,8 @@ pub record Moves (before after : Held) (moved : ℤ) : Type 0 where
   pub exact : MovedExact old new moved
 
 -- ---- Each cap of a node's calls is the identity: spans; the jump of a SYNC as it is read; D where a FUP joins its
--- pair, and as it is answered; the time shown, the time of a SYNC, the time of a FUP; the place that a frame names.
+-- pair, and as it is answered; the time shown, the time of a SYNC, the time of a FUP; the counter sent next; the place
+-- at which the next round starts; the records, of which there are 16; the place that a frame names.
 pub record CapsExact (n : Node) : Type 0 where
   pub spans :
       (i : ℕ) → i < places → (t at : VirtualLocalTime) → Passes n t → HeldAt (recordAt (n .domains) i) at →
@@ -131,4 +133,9 @@ pub record CapsExact (n : Node) : Type 0 where
       (domain : ℕ) (t : VirtualLocalTime) (counter length : ℕ) (f : Fup) →
       nodeConfirmOf n domain t counter length .answer ≡ Followed f →
       Follows (recordAt (n .domains) (domain % places) .sending) counter t f
+  pub counter :
+      (i : ℕ) → i < places →
+      recordAt (n .domains) i .«next_counter» % counters ≡ recordAt (n .domains) i .«next_counter»
+  pub round : n .round % places ≡ n .round
+  pub sixteen : length (n .domains) ≡ places
   pub place : (bytes : List ℕ) → AreBytes bytes → addressedBy bytes ≡ namedDomain bytes
