@@ -8,7 +8,9 @@
 --   sent-exact     and that of a SYNC
 --   follow-exact   and a FUP's is its SYNC's time plus the reading's advance
 --   caps-exact     each cap, for every reachable node
---   bench-..       the hypotheses can be met: on the bench's node, and on that node after one more SYNC
+--   bench-span     the hypotheses can be met: the bench's slave holds a reading, which is not after the kept one
+--   bench-answer   and after one more SYNC its FUP is answered by a D
+--   bench-moved    which is the difference itself
 -- Assumes nothing.
 use Prim.Native.Nat.{ℕ, _+_, _-_, _%_, _≤_, _<_}
 use mathlib.Core.Path.{_≡_, refl, sym, ap, _∙_, subst}
