@@ -67,7 +67,8 @@ module _ (P : List ℕ → Type 0) (most : ℕ) (t : VirtualLocalTime) (ds : Lis
   unfolding flatMap
   each-said [] h = tt
   each-said (i ∷ ps) h =
-      each-by P (sendOf (recordAt ds i) t .answer) (recordAt ds i .settings .ids) _ (p i (omega (arith, h .0))) (each-said ps (h .1))
+      each-by P (sendOf (recordAt ds i) t .answer) (recordAt ds i .settings .ids) _ (p i (omega (arith, h .0)))
+      (each-said ps (h .1))
 
   pub round-each : (first : ℕ) → Each P (roundOf ds first t most .frames)
   round-each first =
