@@ -85,11 +85,11 @@ module _ (domain counter word : ℕ) (hd : domain < 16) (hc : counter < 16) (hw 
 
 pub read-back : (ids : DataIds) (f : Frame) → FrameFits f → readOf (bytesOf ids f) ≡ Values f
 read-back ids (sync s) h =
-    sync-back (s .domain) (s .counter) (s .seconds) (h .domain) (h .counter) (h .seconds)
+    sync-back (s .domain) (s .counter) (s .seconds) (omega arith) (omega arith) (omega arith)
     (s .user0) (idAt (ids .sync) (s .counter)) (s .protection)
 read-back ids (fup f) h =
-    fup-back (f .domain) (f .counter) (f .nanoseconds) (h .domain) (h .counter) (h .nanoseconds)
-    (f .sgw) (f .ovs) (idAt (ids .fup) (f .counter)) (h .ovs) (f .protection)
+    fup-back (f .domain) (f .counter) (f .nanoseconds) (omega arith) (omega arith) (omega arith)
+    (f .sgw) (f .ovs) (idAt (ids .fup) (f .counter)) (omega arith) (f .protection)
 
 -- ---- write-back
 
@@ -155,12 +155,12 @@ module _ (ids : DataIds) (zero' one two three four five six seven : ℕ)
       subst (λ (f : Frame). bytesOf ids f ≡ eight) q (λ i. sym t i ∷ c i ∷ p i)
   back PlainFup t f e z r =
       let q : fup (fupIn eight (Plain one)) ≡ f = cc in
-      let p = rest-of _ (flags-of three (ltb-true three 8 z)) in
+      let p = rest-of _ (flags-of three (omega (arith, ltb-true))) in
       subst (λ (f : Frame). bytesOf ids f ≡ eight) q (λ i. sym t i ∷ one ∷ p i)
   back SecuredFup t f e z r =
       let q : fup (fupIn eight Secured) ≡ f = cc in
-      let p = rest-of _ (flags-of three (ltb-true three 8 z)) in
-      let c = check-of (ids .fup) _ (flags-of three (ltb-true three 8 z)) r in
+      let p = rest-of _ (flags-of three (omega (arith, ltb-true))) in
+      let c = check-of (ids .fup) _ (flags-of three (omega (arith, ltb-true))) r in
       subst (λ (f : Frame). bytesOf ids f ≡ eight) q (λ i. sym t i ∷ c i ∷ p i)
   back Unknown t f e z r = let no : _≡_ {A = ℕ} 0 1 = cc in absurd (omega arith)
 

@@ -43,11 +43,11 @@ module _ (n : Node) (r : Reachable n) where
   domain-above (frame t bytes) h = absurd h
   domain-above (read domain t) h =
       let c = read domain t in
-      order n c ∙ fourth (badReading n t) _ (testsOf n c) (no-such domain Either h)
+      order n c ∙ fourth (badReading n t) _ (testsOf n c) (no-such domain Either (omega (arith, h)))
   domain-above (set domain t s ns) h =
       let c = set domain t s ns in
-      order n c ∙ fourth (badReading n t) _ (testsOf n c) (no-such domain Master h)
+      order n c ∙ fourth (badReading n t) _ (testsOf n c) (no-such domain Master (omega (arith, h)))
   domain-above (cycle t out) h = absurd h
   domain-above (confirm domain t counter out) h =
       let c = confirm domain t counter out in
-      order n c ∙ fourth (badReading n t) _ (testsOf n c) (no-such domain Master h)
+      order n c ∙ fourth (badReading n t) _ (testsOf n c) (no-such domain Master (omega (arith, h)))

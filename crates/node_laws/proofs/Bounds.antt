@@ -9,7 +9,7 @@
 --   ovs-within           a master's confirmation is never refused for its OVS
 --   call-ovs-within      nor is a call of one, on whatever record
 -- Assumes nothing.
-use Prim.Native.Nat.{ℕ, _+_, _-_, _%_, _≤_, _<_}
+use Prim.Native.Nat.{ℕ, _%_, _≤_, _<_}
 use mathlib.Core.Path.{_≡_, refl, sym, ap, subst}
 use mathlib.Core.Bool.{Bool, true}
 use native.Mathlib.Nat.{mod-eq-of-lt}
@@ -20,11 +20,10 @@ use Rattle.clock.specs.declared.reading.VirtualLocalTime.{VirtualLocalTime}
 use Rattle.clock.specs.declared.base.TimeBase.{TimeBase}
 use Rattle.clock.specs.declared.base.Held.{Held}
 use Rattle.clock.specs.declared.base.Held.the-variants.{Unset, Set}
-use Rattle.clock.specs.Time.{nanosecondsOf, mostSet, mostReceived, IsSet, IsReceived, IsRead}
+use Rattle.clock.specs.Time.{mostSet, mostReceived, IsSet, IsReceived}
 use Rattle.clock.specs.Base.{timeAt}
 use Rattle.clock.proofs.Laws.{time-exact, read-bound}
 use Rattle.refusal.specs.declared.Refusal.{Refusal}
-use Rattle.refusal.specs.declared.Refusal.the-variants.{Ovs}
 use Rattle.settings.specs.declared.domain_settings.Role.{Role}
 use Rattle.settings.specs.declared.domain_settings.Role.the-variants.{Absent, Slave, Master}
 use Rattle.settings.specs.Ranges.{isGoodAs}
@@ -37,13 +36,12 @@ use Rattle.admission.specs.declared.Needed.the-variants.{Master as master, Eith
 use Rattle.admission.proofs.Laws.{by-admission, master-admitted}
 use Rattle.master_follow.specs.declared.Follow.{Follow}
 use Rattle.master_follow.proofs.Laws.{ovs-bound, by-follow}
-use Rattle.master_confirm.specs.declared.ConfirmAnswer.the-variants.{Refused}
 use Rattle.master_confirm.specs.Confirm.{confirmNumber, confirmAs, confirmOf}
-use Rattle.call_read.specs.declared.Shown.{Shown}
-use Rattle.call_read.specs.declared.ReadAnswer.the-variants.{Time, Refused as not-shown}
+use Rattle.call_read.specs.declared.ReadAnswer.the-variants.{Refused as not-shown}
 use Rattle.call_read.specs.ReadCall.{readAs, readCallAs, readCallOf}
 use Rattle.call_confirm.specs.ConfirmCall.{confirmCallAs, confirmCallOf}
 use Rattle.node_laws.specs.Good.{HeldWithin, SentWithin, RoleGood, RecordGood}
+use Rattle.node_laws.specs.Bounds.{HoldsReceived, ShowsRead, NotOvs, CarriedOn}
 
 -- ---- the base, whatever the role
 
@@ -63,8 +61,8 @@ module _ (i : ℕ) (kept : VirtualLocalTime) (d : Domain) (g : RecordGood i kept
   pub base-within : (b : TimeBase) → d .base ≡ Set b → IsReceived (b .time)
   base-within b e = let h = within b e in record { whole = h .0; part = h .1 }
 
-  pub received-within : d .settings .role ≡ Slave → (b : TimeBase) → d .base ≡ Set b → IsReceived (b .time)
-  received-within r b e = base-within b e
+  pub received-within : HoldsReceived d
+  received-within r b e = let h = within b e in record { whole = omega (arith, h .0); part = h .1 }
 
   pub set-within : d .settings .role ≡ Master → (b : TimeBase) → d .base ≡ Set b → IsSet (b .time)
   set-within r b e =
@@ -75,24 +73,25 @@ module _ (i : ℕ) (kept : VirtualLocalTime) (d : Domain) (g : RecordGood i kept
 
   pub time-exact-here :
       (b : TimeBase) (t : VirtualLocalTime) → d .base ≡ Set b → kept .0 ≤ t .0 → t .0 ≤ 1000000000000000000 →
-      (b .at .0 ≤ t .0) × (nanosecondsOf (timeAt b t) ≡ nanosecondsOf (b .time) + (t .0 - b .at .0))
+      CarriedOn b t
   time-exact-here b t e le in-range =
       (omega (arith, within b e .2), time-exact b t (base-within b e) in-range)
 
   pub read-within :
-      (asked : ℕ) (t : VirtualLocalTime) (shown : Shown) → readCallOf d kept asked t ≡ Time shown → IsRead (shown .time)
-  read-within asked t shown =
-      by-admission (λ (a : Admission). readCallAs a d t ≡ Time shown → IsRead (shown .time)) kept t (d .number)
-      (d .settings .role) asked Either (λ tested. by-base (tested .in-range) (d .base) refl) (refused _) (refused _)
+      (asked : ℕ) (t : VirtualLocalTime) → ShowsRead (readCallOf d kept asked t)
+  read-within asked t =
+      by-admission (λ (a : Admission). ShowsRead (readCallAs a d t)) kept t (d .number) (d .settings .role) asked
+      Either (λ tested. by-base (tested .in-range) (d .base) refl) (refused _) (refused _)
     where
-      refused : (refusal : Refusal) → not-shown refusal ≡ Time shown → IsRead (shown .time)
-      refused refusal e = let z : _≡_ {A = ℕ} 0 1 = cc in absurd (omega arith)
+      refused : (refusal : Refusal) → ShowsRead (not-shown refusal)
+      refused refusal shown e = let z : _≡_ {A = ℕ} 0 1 = cc in absurd (omega arith)
 
-      by-base : t .0 ≤ 1000000000000000000 → (h : Held) → d .base ≡ h → readAs h d t ≡ Time shown → IsRead (shown .time)
-      by-base in-range Unset is e = refused _ e
-      by-base in-range (Set b) is e =
+      by-base : t .0 ≤ 1000000000000000000 → (h : Held) → d .base ≡ h → ShowsRead (readAs h d t)
+      by-base in-range Unset is shown e = refused _ shown e
+      by-base in-range (Set b) is shown e =
           let same : timeAt b t ≡ shown .time = cc in
-          subst IsRead same (read-bound b t (base-within b is) in-range)
+          let bound = read-bound b t (base-within b is) in-range in
+          rw (← same) (record { whole = omega (arith, bound .whole); part = bound .part })
 
   -- ---- the counter
 
@@ -116,15 +115,15 @@ module _ (i : ℕ) (kept : VirtualLocalTime) (d : Domain) (g : RecordGood i kept
 
   pub ovs-within :
       d .settings .role ≡ Master → (t : VirtualLocalTime) (counter : ℕ) (room : Bool) →
-      confirmOf d t counter room .answer ≡ Refused Ovs → ⊥
+      NotOvs (confirmNumber (confirmOf d t counter room .answer))
   ovs-within r t counter room =
-      by-follow (λ (f : Follow). confirmAs f d counter .answer ≡ Refused Ovs → ⊥) (d .settings .«confirmation_time»)
-      (d .sending) t counter room (λ e. omega (arith, ap confirmNumber e)) (λ e. omega (arith, ap confirmNumber e))
+      by-follow (λ (f : Follow). NotOvs (confirmNumber (confirmAs f d counter .answer)))
+      (d .settings .«confirmation_time») (d .sending) t counter room (λ e. omega arith) (λ e. omega arith)
       (λ from at told many e.
       let h = subst (SentWithin kept (d .base) (d .«next_counter»)) (told .held) sent in
       let good : IsSet from = record { whole = omega (arith, h .3); part = h .4 } in
       omega (arith, many, ovs-bound from at t good (omega (arith, told .soon, in-range))))
-      (λ from at told few has-room e. omega (arith, ap confirmNumber e))
+      (λ from at told few has-room e. omega arith)
     where
       in-range : d .settings .«confirmation_time» ≤ 3000000000
       in-range =
@@ -136,9 +135,9 @@ module _ (i : ℕ) (kept : VirtualLocalTime) (d : Domain) (g : RecordGood i kept
 
   pub call-ovs-within :
       (asked : ℕ) (t : VirtualLocalTime) (counter length : ℕ) →
-      confirmCallOf d kept asked t counter length .answer ≡ Refused Ovs → ⊥
+      NotOvs (confirmNumber (confirmCallOf d kept asked t counter length .answer))
   call-ovs-within asked t counter length =
-      by-admission (λ (a : Admission). confirmCallAs a d kept t counter length .answer ≡ Refused Ovs → ⊥)
+      by-admission (λ (a : Admission). NotOvs (confirmNumber (confirmCallAs a d kept t counter length .answer)))
       kept t (d .number) (d .settings .role) asked master
       (λ tested. ovs-within (master-admitted (d .settings .role) (tested .in-role)) t counter (leb 8 length))
-      (λ e. omega (arith, ap confirmNumber e)) (λ e. omega (arith, ap confirmNumber e))
+      (λ e. omega arith) (λ e. omega arith)

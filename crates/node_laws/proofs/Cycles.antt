@@ -35,9 +35,10 @@ use Rattle.node.specs.declared.Node.{Node}
 use Rattle.node.specs.declared.cycles.NodeCycle.{NodeCycle}
 use Rattle.node.specs.CycleAnswer.{cycleNumber, cycleCount}
 use Rattle.node.specs.Cycle.{isRoomFor, goneFrom, cycledBy, cycleRefused, cycleBytes}
-use Rattle.node_call.specs.Calls.{cycle, sends, answerTo, numberIn}
+use Rattle.node_call.specs.Calls.{sends}
 use Rattle.node_laws.specs.Due.{dueOne, dueBelow, dueCount}
-use Rattle.node_laws.specs.Back.{joined, IsEight}
+use Rattle.node_laws.specs.Back.{joined, IsEight, OfSent}
+use Rattle.node_laws.specs.Demands.{SyncsStand}
 
 -- ---- how many there are
 
@@ -60,19 +61,14 @@ each-by :
 each-by P (Sent s) ids rest p e = (p s refl, e)
 each-by P NotDue ids rest p e = e
 
--- P of the frame that a record sends, if it sends one
-abbrev pub OfSent : (List ℕ → Type 0) → VirtualLocalTime → List Domain → Type 0
-OfSent P t ds =
-    (i : ℕ) → i < places → (s : Sync) → sendOf (recordAt ds i) t .answer ≡ Sent s →
-    P (bytesOf (recordAt ds i .settings .ids) (sync s))
-
 module _ (P : List ℕ → Type 0) (most : ℕ) (t : VirtualLocalTime) (ds : List Domain) (p : OfSent P t ds) where
   each-said :
       (ps : List ℕ) → Each (λ (i : ℕ). i < places) ps → Each P (flatMap (λ (i : ℕ). frameBy (recordAt ds i) t) ps)
   unfolding flatMap
   each-said [] h = tt
   each-said (i ∷ ps) h =
-      each-by P (sendOf (recordAt ds i) t .answer) (recordAt ds i .settings .ids) _ (p i (h .0)) (each-said ps (h .1))
+      each-by P (sendOf (recordAt ds i) t .answer) (recordAt ds i .settings .ids) _ (p i (omega (arith, h .0)))
+      (each-said ps (h .1))
 
   pub round-each : (first : ℕ) → Each P (roundOf ds first t most .frames)
   round-each first =
@@ -140,8 +136,6 @@ module _ (n : Node) (t : VirtualLocalTime) (out : List ℕ) where
       λ z i. sends 0 (counted i)
       ((pasted-whole sent out eights fits ∙ ap (λ (k : ℕ). joined sent ++ drop (8 * k) out) counted) i)
 
-  pub cycle-whole :
-      numberIn (answerTo n (cycle t out)) ≡ 0 →
-      answerTo n (cycle t out) ≡ sends 0 count (joined sent ++ drop (8 * count) out)
+  pub cycle-whole : SyncsStand n t out
   cycle-whole =
       either Whole (isGoodReading (n .kept) t) (whole (isRoomFor n (length out)) refl) (λ z. absurd (omega arith))

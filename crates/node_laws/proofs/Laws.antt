@@ -43,11 +43,11 @@ use Rattle.node_call.specs.Calls.{
   confirm,
   nodeAfter,
   answerTo,
-  numberIn,
   lentTo,
   lentAfter,
   countIn,
 }
+use Rattle.node_laws.specs.Refused.{IsRefused}
 use Rattle.node_laws.specs.Apart.{Elsewhere, Own}
 use Rattle.node_laws.proofs.Keeps.{refusal-keeps-frame-call, refusal-keeps-set-call, refusal-keeps-confirm-call}
 
@@ -75,7 +75,7 @@ cycle-keeps n t out =
     (either (CycleKeeps n t out) (isRoomFor n (length out)) (λ e. absurd (e refl)) (λ e. (refl, refl, refl)))
     (λ e. (refl, refl, refl))
 
-pub refusal-keeps : (n : Node) (c : Call) → (numberIn (answerTo n c) ≡ 0 → ⊥) → nodeAfter n c ≡ n
+pub refusal-keeps : (n : Node) (c : Call) → IsRefused n c → nodeAfter n c ≡ n
 refusal-keeps n (frame t bytes) e =
     stored-same n (addressedBy bytes)
     (refusal-keeps-frame-call (recordAt (n .domains) (addressedBy bytes)) (n .kept) t bytes e)
@@ -90,7 +90,7 @@ refusal-keeps n (confirm domain t counter out) e =
 
 -- ---- the lent bytes, and the frames counted
 pub refusal-keeps-bytes :
-    (n : Node) (c : Call) → (numberIn (answerTo n c) ≡ 0 → ⊥) →
+    (n : Node) (c : Call) → IsRefused n c →
     (lentAfter (answerTo n c) ≡ lentTo c) × (countIn (answerTo n c) ≡ 0)
 refusal-keeps-bytes n (frame t bytes) e = (refl, refl)
 refusal-keeps-bytes n (read domain t) e = (refl, refl)

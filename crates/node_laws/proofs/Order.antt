@@ -10,7 +10,7 @@
 -- Assumes nothing.
 use Prim.Native.Nat.{ℕ, _%_}
 use mathlib.Core.Path.{_≡_, refl}
-use mathlib.Core.Bool.{Bool, true, false, not, cond, _&&_}
+use mathlib.Core.Bool.{Bool, true, false, not, cond}
 use mathlib.Core.List.{List}
 use lib.Dec.{leb, eqb}
 use lib.ListN.{length, getD}
@@ -19,13 +19,7 @@ use Rattle.clock.specs.declared.base.Held.{Held}
 use Rattle.clock.specs.declared.base.Held.the-variants.{Unset, Set}
 use Rattle.clock.specs.Time.{isNanoseconds}
 use Rattle.frame.specs.declared.types.FrameType.{FrameType}
-use Rattle.frame.specs.declared.types.FrameType.the-variants.{
-  PlainSync,
-  SecuredSync,
-  PlainFup,
-  SecuredFup,
-  Unknown,
-}
+use Rattle.frame.specs.declared.types.FrameType.the-variants.{PlainSync, SecuredSync, PlainFup, SecuredFup, Unknown}
 use Rattle.frame.specs.declared.values.Protection.the-variants.{Plain, Secured}
 use Rattle.frame.specs.declared.values.Fup.{Fup}
 use Rattle.frame.specs.declared.values.Frame.{Frame}
@@ -37,10 +31,8 @@ use Rattle.frame_read.specs.declared.Read.the-variants.{Values}
 use Rattle.frame_read.specs.Read.{namedDomain, syncIn, fupIn, valuesOf}
 use Rattle.frame_check.specs.Check.{isTaken}
 use Rattle.settings.specs.declared.node_settings.NodeSettings.{NodeSettings}
-use Rattle.settings.specs.declared.node_settings.Verdict.{Verdict}
 use Rattle.settings.specs.Ranges.{within}
 use Rattle.settings.specs.Node.{places, allGood, verdictNumber}
-use Rattle.admission.specs.declared.Admission.{Admission}
 use Rattle.admission.specs.declared.Needed.the-variants.{Slave, Master, Either}
 use Rattle.admission.specs.declared.frames.FrameAdmission.{FrameAdmission}
 use Rattle.admission.specs.Reading.{isGoodReading}
@@ -55,38 +47,22 @@ use Rattle.domain.specs.declared.Sending.the-variants.{Never, Open, Confirmed}
 use Rattle.domain.specs.Records.{recordAt}
 use Rattle.slave_answer.specs.declared.FrameStep.{FrameStep}
 use Rattle.slave_answer.specs.Answer.{frameNumber}
-use Rattle.slave_pair.specs.declared.joining.Joined.{Joined}
-use Rattle.slave_pair.specs.Join.{isOld, isOther, isAbove, joinedOf}
+use Rattle.slave_pair.specs.Join.{isOld, isOther, isAbove}
 use Rattle.slave_sync.specs.Sync.{takesSync}
 use Rattle.slave_update.specs.Update.{newBase, updateOf}
-use Rattle.slave_fup.specs.Fup.{takenBy, fupAs}
+use Rattle.slave_fup.specs.Fup.{takenBy}
 use Rattle.slave_frame.specs.Step.{kindOf}
-use Rattle.master_set.specs.declared.SetStep.{SetStep}
-use Rattle.master_set.specs.Set.{setNumber}
-use Rattle.master_follow.specs.declared.Follow.{Follow}
-use Rattle.master_follow.specs.Follow.{isOpenFor, ovsOf, followOf}
-use Rattle.master_confirm.specs.Confirm.{confirmNumber, confirmAs}
+use Rattle.master_follow.specs.Follow.{isOpenFor, ovsOf}
 use Rattle.call_frame.specs.FrameCall.{frameCallAs}
-use Rattle.call_read.specs.Answer.{readNumber}
-use Rattle.call_read.specs.ReadCall.{readAs, readCallAs}
-use Rattle.call_set.specs.SetCall.{setCallAs}
-use Rattle.call_confirm.specs.ConfirmCall.{confirmCallAs}
 use Rattle.node.specs.declared.Node.{Node}
-use Rattle.node.specs.declared.cycles.NodeCycle.{NodeCycle}
-use Rattle.node.specs.New.{newOf, newAs}
+use Rattle.node.specs.New.{newOf}
 use Rattle.node.specs.Frame.{addressedBy}
 use Rattle.node.specs.Cycle.{isRoomFor}
-use Rattle.node.specs.CycleAnswer.{cycleNumber}
 use Rattle.node_call.specs.Calls.{Call, frame, read, set, cycle, confirm, answerTo, numberIn}
 use Rattle.node_laws.specs.Tests.{
   firstOf,
   noType,
   notFor,
-  noOpenPair,
-  notThePairs,
-  neverSet,
-  noOpenSync,
-  ovsAbove,
   kindTests,
   frameTests,
   readTests,
@@ -97,7 +73,7 @@ use Rattle.node_laws.specs.Tests.{
   testsOf,
 }
 
--- ---- one test: where it is met the later ones are asked, else its number is given; and the other way round
+-- ---- one test: where it is met the later ones are asked, else its number is given
 
 met :
     {A : Type 0} (number : A → ℕ) (b : Bool) {x y : A} {k later : ℕ} →
@@ -105,11 +81,12 @@ met :
 met number true p q = p
 met number false p q = q
 
-hit :
-    {A : Type 0} (number : A → ℕ) (b : Bool) {x y : A} {k later : ℕ} →
-    number x ≡ k → number y ≡ later → number (cond b x y) ≡ cond b k later
-hit number true p q = p
-hit number false p q = q
+-- ---- what a test says is put into both sides, and the numbers are compared
+
+told :
+    {A : Type 0} {x y : A} (b : Bool) → (b ≡ true → x ≡ y) → (b ≡ false → x ≡ y) → x ≡ y
+told true p q = p refl
+told false p q = q refl
 
 -- ---- a frame
 
@@ -123,26 +100,22 @@ module _ (d : Domain) (kept t : VirtualLocalTime) (bytes : List ℕ) where
   taken-zero Unset p f = refl
   taken-zero (Set b) p f = refl
 
-  abbrev joinNumber : Fup → Joined → ℕ
-  joinNumber f j = frameNumber (fupAs j d f .answer)
-
-  fup-order :
-      (pairing : Pairing) (f : Fup) →
-      joinNumber f (joinedOf (d .settings .«follow_up_time») pairing t f)
-      ≡ cond (noOpenPair (d .settings .«follow_up_time») pairing t) 7
-      (cond (notThePairs pairing f) 8 (cond (isAbove f) 9 0))
-  fup-order Waiting f = refl
-  fup-order (open-pair p) f =
-      hit (joinNumber f) (isOld (d .settings .«follow_up_time») p t) refl
-      (hit (joinNumber f) (isOther p f) refl
-      (hit (joinNumber f) (isAbove f) refl (taken-zero (d .base) p f)))
-
   abbrev stepNumber : FrameStep → ℕ
   stepNumber s = frameNumber (s .answer)
 
+  fup-order :
+      (f : Fup) (pairing : Pairing) → d .pairing ≡ pairing →
+      stepNumber (kindOf d t (fup f)) ≡ firstOf (kindTests (Values (fup f)) d t)
+  fup-order f Waiting e = simp e
+  fup-order f (open-pair p) e =
+      told (isOld (d .settings .«follow_up_time») p t) (λ old. simp (e, old))
+      (λ young. told (isOther p f) (λ other. simp (e, young, other))
+      (λ same. told (isAbove f) (λ above. simp (e, young, same, above))
+      (λ below. simp (e, young, same, below) (taken-zero (d .base) p f))))
+
   kind-order : (values : Frame) → stepNumber (kindOf d t values) ≡ firstOf (kindTests (Values values) d t)
   kind-order (sync s) = met stepNumber (takesSync d t s) refl refl
-  kind-order (fup f) = fup-order (d .pairing) f
+  kind-order (fup f) = fup-order f (d .pairing) refl
 
   abbrev admissionNumber : FrameAdmission → ℕ
   admissionNumber a = frameNumber (frameCallAs a d kept t bytes .answer)
@@ -184,20 +157,23 @@ frame-order n t bytes =
 
 -- ---- a read
 
-held-order :
-    (base : Held) (d : Domain) (t : VirtualLocalTime) → readNumber (readAs base d t) ≡ cond (neverSet base) 10 0
-held-order Unset d t = refl
-held-order (Set b) d t = refl
-
 pub read-order :
     (n : Node) (domain : ℕ) (t : VirtualLocalTime) →
     numberIn (answerTo n (read domain t)) ≡ firstOf (readTests n domain t)
 read-order n domain t =
-    let d = recordAt (n .domains) (domain % places) in
-    let number : Admission → ℕ = λ a. readNumber (readCallAs a d t) in
-    met number (isGoodReading (n .kept) t)
-    (met number (isFor (d .number) (d .settings .role) domain Either) (held-order (d .base) d t) refl)
-    refl
+    told (isGoodReading (n .kept) t)
+    (λ good. told (isFor (d .number) (d .settings .role) domain Either) (λ for. held good for (d .base) refl)
+    (λ other. simp (good, other)))
+    (λ bad. simp bad)
+  where
+    d : Domain
+    d = recordAt (n .domains) (domain % places)
+
+    held :
+        isGoodReading (n .kept) t ≡ true → isFor (d .number) (d .settings .role) domain Either ≡ true →
+        (base : Held) → d .base ≡ base → numberIn (answerTo n (read domain t)) ≡ firstOf (readTests n domain t)
+    held good for Unset e = simp (good, for, e)
+    held good for (Set b) e = simp (good, for, e)
 
 -- ---- a set
 
@@ -206,11 +182,11 @@ pub set-order :
     numberIn (answerTo n (set domain t seconds nanoseconds)) ≡ firstOf (setTests n domain t nanoseconds)
 set-order n domain t seconds nanoseconds =
     let d = recordAt (n .domains) (domain % places) in
-    let number : Admission → ℕ = λ a. setNumber (setCallAs a d (n .kept) t seconds nanoseconds .answer) in
-    met number (isGoodReading (n .kept) t)
-    (met number (isFor (d .number) (d .settings .role) domain Master)
-    (met (λ (s : SetStep). setNumber (s .answer)) (isNanoseconds nanoseconds) refl refl) refl)
-    refl
+    told (isGoodReading (n .kept) t)
+    (λ good. told (isFor (d .number) (d .settings .role) domain Master)
+    (λ for. told (isNanoseconds nanoseconds) (λ few. simp (good, for, few)) (λ many. simp (good, for, many)))
+    (λ other. simp (good, other)))
+    (λ bad. simp bad)
 
 -- ---- a main cycle
 
@@ -218,44 +194,45 @@ pub cycle-order :
     (n : Node) (t : VirtualLocalTime) (out : List ℕ) →
     numberIn (answerTo n (cycle t out)) ≡ firstOf (cycleTests n t out)
 cycle-order n t out =
-    let number : NodeCycle → ℕ = λ r. cycleNumber (r .answer) in
-    met number (isGoodReading (n .kept) t) (met number (isRoomFor n (length out)) refl refl) refl
+    told (isGoodReading (n .kept) t)
+    (λ good. told (isRoomFor n (length out)) (λ room. simp (good, room)) (λ short. simp (good, short)))
+    (λ bad. simp bad)
 
 -- ---- a confirmation
-
-module _ (d : Domain) (t : VirtualLocalTime) (counter : ℕ) (room : Bool) where
-  abbrev followNumber : Follow → ℕ
-  followNumber f = confirmNumber (confirmAs f d counter .answer)
-
-  follow-order :
-      (c : ℕ) (sending : Sending) →
-      followNumber (followOf c sending t counter room)
-      ≡ cond (noOpenSync c sending t counter) 11 (cond (not room) 12 (cond (ovsAbove sending t) 13 0))
-  follow-order c Never = refl
-  follow-order c (Open sent seconds nanoseconds at) =
-      met followNumber (isOpenFor c sent at t counter)
-      (met followNumber room
-      (met followNumber (leb (ovsOf (record { 0 = seconds; 1 = nanoseconds }) at t) 3) refl refl) refl)
-      refl
-  follow-order c (Confirmed at) = refl
 
 pub confirm-order :
     (n : Node) (domain : ℕ) (t : VirtualLocalTime) (counter : ℕ) (out : List ℕ) →
     numberIn (answerTo n (confirm domain t counter out)) ≡ firstOf (confirmTests n domain t counter out)
 confirm-order n domain t counter out =
-    let d = recordAt (n .domains) (domain % places) in
-    let number : Admission → ℕ = λ a. confirmNumber (confirmCallAs a d (n .kept) t counter (length out) .answer) in
-    met number (isGoodReading (n .kept) t)
-    (met number (isFor (d .number) (d .settings .role) domain Master)
-    (follow-order d t counter (leb 8 (length out)) (d .settings .«confirmation_time») (d .sending)) refl)
-    refl
+    told (isGoodReading (n .kept) t)
+    (λ good. told (isFor (d .number) (d .settings .role) domain Master) (λ for. sent good for (d .sending) refl)
+    (λ other. simp (good, other)))
+    (λ bad. simp bad)
+  where
+    d : Domain
+    d = recordAt (n .domains) (domain % places)
+
+    sent :
+        isGoodReading (n .kept) t ≡ true → isFor (d .number) (d .settings .role) domain Master ≡ true →
+        (sending : Sending) → d .sending ≡ sending →
+        numberIn (answerTo n (confirm domain t counter out)) ≡ firstOf (confirmTests n domain t counter out)
+    sent good for Never e = simp (good, for, e)
+    sent good for (Open was seconds nanoseconds at) e =
+        told (isOpenFor (d .settings .«confirmation_time») was at t counter)
+        (λ its. told (leb 8 (length out))
+        (λ room. told (leb (ovsOf (record { 0 = seconds; 1 = nanoseconds }) at t) 3)
+        (λ few. simp (good, for, e, its, room, few)) (λ many. simp (good, for, e, its, room, many)))
+        (λ short. simp (good, for, e, its, short)))
+        (λ none. simp (good, for, e, none))
+    sent good for (Confirmed at) e = simp (good, for, e)
 
 -- ---- `new`
 
 pub new-order : (s : NodeSettings) → verdictNumber (newOf s .verdict) ≡ firstOf (newTests s)
 new-order s =
-    met (λ (v : Verdict). verdictNumber (newAs v s .verdict))
-    (within 1 16 (s .«syncs_per_cycle») && allGood (s .domains)) refl refl
+    told (within 1 16 (s .«syncs_per_cycle»))
+    (λ one. told (allGood (s .domains)) (λ all. simp (one, all)) (λ some. simp (one, some)))
+    (λ none. simp none)
 
 -- ---- any call
 

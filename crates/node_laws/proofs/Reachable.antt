@@ -12,31 +12,20 @@
 --   sync-back        demand 2: each frame of a main cycle is read back as the values sent
 --   fup-back         and so is the FUP of a confirmation
 -- Assumes nothing.
-use Prim.Native.Nat.{ℕ, _+_, _-_, _%_, _≤_, _<_}
+use Prim.Native.Nat.{ℕ, _%_, _≤_, _<_}
 use mathlib.Core.Path.{_≡_}
 use mathlib.Core.Bool.{true}
 use mathlib.Core.List.{List}
 use native.Mathlib.Nat.{mod-eq-of-lt}
 use native.Mathlib.Omega.{arith}
-use lib.ListN.{length, take}
+use lib.ListN.{length}
 use Rattle.settings.specs.Node.{places}
 use Rattle.frame.specs.ByteTwo.{counters}
 use Rattle.promise.proofs.Tests.{either, either-told}
 use Rattle.clock.specs.declared.reading.VirtualLocalTime.{VirtualLocalTime}
 use Rattle.clock.specs.declared.base.TimeBase.{TimeBase}
 use Rattle.clock.specs.declared.base.Held.the-variants.{Set}
-use Rattle.clock.specs.Time.{nanosecondsOf, IsReceived, IsRead}
-use Rattle.clock.specs.Base.{timeAt}
-use Rattle.frame.specs.declared.values.Fup.{Fup}
-use Rattle.frame.specs.declared.values.Frame.the-variants.{Fup as fup}
-use Rattle.frame_read.specs.declared.Read.the-variants.{Values}
-use Rattle.frame_read.specs.Read.{readOf}
-use Rattle.refusal.specs.declared.Refusal.the-variants.{Ovs}
-use Rattle.settings.specs.declared.domain_settings.Role.the-variants.{Slave}
-use Rattle.master_confirm.specs.declared.ConfirmAnswer.the-variants.{Followed, Refused}
 use Rattle.admission.specs.Reading.{isGoodReading}
-use Rattle.call_read.specs.declared.Shown.{Shown}
-use Rattle.call_read.specs.declared.ReadAnswer.the-variants.{Time}
 use Rattle.domain.specs.declared.Domain.{Domain}
 use Rattle.domain.specs.Records.{recordAt}
 use Rattle.node.specs.declared.Node.{Node}
@@ -44,13 +33,14 @@ use Rattle.node.specs.declared.cycles.NodeCycle.{NodeCycle}
 use Rattle.node.specs.Store.{storedIn}
 use Rattle.node.specs.Frame.{addressedBy}
 use Rattle.node.specs.Read.{nodeReadOf}
-use Rattle.node.specs.Confirm.{nodeConfirmOf, confirmedBytes}
 use Rattle.node.specs.Cycle.{isRoomFor, goneFrom, cycledBy, nodeCycleOf}
-use Rattle.node_call.specs.Calls.{Call, frame, read, set, cycle, confirm, nodeAfter}
+use Rattle.node_call.specs.Calls.{Call, frame, read, set, cycle, confirm, nodeAfter, answerTo, numberIn}
 use Rattle.node_laws.specs.Reachable.{IsCall, Reachable, new, after}
 use Rattle.node_laws.specs.Good.{RecordGood, Good}
+use Rattle.node_laws.specs.Bounds.{HoldsReceived, ShowsRead, NotOvs, CarriedOn}
 use Rattle.round.specs.FirstDue.{Each}
 use Rattle.node_laws.specs.Back.{SyncBack}
+use Rattle.node_laws.specs.Demands.{FupBack}
 use Rattle.admission.proofs.Laws.{good-reading}
 use Rattle.node_laws.proofs.Later.{Grows}
 use Rattle.node_laws.proofs.Slave.{frame-good, frame-kept}
@@ -62,7 +52,7 @@ use Rattle.node_laws.proofs.Bounds.{
   received-within,
   read-within,
   call-ovs-within,
-  next-counter-exact,
+  next-counter-within,
   time-exact-here,
 }
 
@@ -143,34 +133,32 @@ module _ (n : Node) (r : Reachable n) where
   at : (i : ℕ) → RecordGood (i % places) (n .kept) (recordAt (n .domains) (i % places))
   at i = record-good n r (i % places) (omega arith)
 
-  pub received-most :
-      (i : ℕ) → i < places → recordAt (n .domains) i .settings .role ≡ Slave → (b : TimeBase) →
-      recordAt (n .domains) i .base ≡ Set b → IsReceived (b .time)
+  pub received-most : (i : ℕ) → i < places → HoldsReceived (recordAt (n .domains) i)
   received-most i h = received-within i (n .kept) (recordAt (n .domains) i) (record-good n r i h)
 
-  pub read-most :
-      (domain : ℕ) (t : VirtualLocalTime) (shown : Shown) → nodeReadOf n domain t ≡ Time shown → IsRead (shown .time)
+  pub read-most : (domain : ℕ) (t : VirtualLocalTime) → ShowsRead (nodeReadOf n domain t)
   read-most domain =
       read-within (domain % places) (n .kept) (recordAt (n .domains) (domain % places)) (at domain) domain
 
   pub ovs-most :
-      (domain : ℕ) (t : VirtualLocalTime) (counter length : ℕ) →
-      nodeConfirmOf n domain t counter length .answer ≡ Refused Ovs → ⊥
-  ovs-most domain =
-      call-ovs-within (domain % places) (n .kept) (recordAt (n .domains) (domain % places)) (at domain) domain
+      (domain : ℕ) (t : VirtualLocalTime) (counter : ℕ) (out : List ℕ) →
+      NotOvs (numberIn (answerTo n (confirm domain t counter out)))
+  ovs-most domain t counter out =
+      call-ovs-within (domain % places) (n .kept) (recordAt (n .domains) (domain % places)) (at domain) domain t
+      counter (length out)
 
   pub counter-exact :
       (i : ℕ) → i < places →
       recordAt (n .domains) i .«next_counter» % counters ≡ recordAt (n .domains) i .«next_counter»
-  counter-exact i h = next-counter-exact i (n .kept) (recordAt (n .domains) i) (record-good n r i h)
+  counter-exact i h =
+      mod-eq-of-lt (omega (arith, next-counter-within i (n .kept) (recordAt (n .domains) i) (record-good n r i h)))
 
   pub round-exact : n .round % places ≡ n .round
-  round-exact = mod-eq-of-lt (reachable-good n r .round)
+  round-exact = mod-eq-of-lt (omega (arith, reachable-good n r .round))
 
   pub base-exact :
       (i : ℕ) → i < places → (b : TimeBase) (t : VirtualLocalTime) → recordAt (n .domains) i .base ≡ Set b →
-      n .kept .0 ≤ t .0 → t .0 ≤ 1000000000000000000 →
-      (b .at .0 ≤ t .0) × (nanosecondsOf (timeAt b t) ≡ nanosecondsOf (b .time) + (t .0 - b .at .0))
+      n .kept .0 ≤ t .0 → t .0 ≤ 1000000000000000000 → CarriedOn b t
   base-exact i h = time-exact-here i (n .kept) (recordAt (n .domains) i) (record-good n r i h)
 
   -- ---- demand 2
@@ -179,7 +167,5 @@ module _ (n : Node) (r : Reachable n) where
   sync-back = good-sync-back n (reachable-good n r)
 
   pub fup-back :
-      (domain : ℕ) (t : VirtualLocalTime) (counter : ℕ) (out : List ℕ) (f : Fup) →
-      let answer = nodeConfirmOf n domain t counter (length out) .answer in
-      answer ≡ Followed f → readOf (take 8 (confirmedBytes answer n domain out)) ≡ Values (fup f)
+      (domain : ℕ) (t : VirtualLocalTime) (counter : ℕ) (out : List ℕ) → FupBack n domain t counter out
   fup-back = good-fup-back n (reachable-good n r)

@@ -18,7 +18,6 @@ use Rattle.clock.specs.Base.{timeAt}
 use Rattle.frame.specs.declared.values.Sync.{Sync}
 use Rattle.frame.specs.declared.values.Fup.{Fup}
 use Rattle.frame.specs.declared.values.Frame.the-variants.{Sync as sync, Fup as fup}
-use Rattle.frame_read.specs.declared.Read.the-variants.{Values}
 use Rattle.frame_read.specs.Read.{readOf}
 use Rattle.frame_write.specs.Write.{bytesOf}
 use Rattle.frame_laws.specs.RoundTrip.{SyncFits, FupFits}
@@ -51,10 +50,11 @@ use Rattle.domain.specs.Records.{recordAt}
 use Rattle.round.specs.Round.{roundOf}
 use Rattle.node.specs.declared.Node.{Node}
 use Rattle.node.specs.Cycle.{goneFrom}
-use Rattle.node.specs.Confirm.{nodeConfirmOf, confirmedBytes}
+use Rattle.node.specs.Confirm.{confirmedBytes}
 use Rattle.node_laws.specs.Good.{SentWithin, RoleGood, Good}
 use Rattle.round.specs.FirstDue.{Each}
 use Rattle.node_laws.specs.Back.{SyncBack, OpenBelow}
+use Rattle.node_laws.specs.Demands.{FupBack}
 use Rattle.node_laws.proofs.Cycles.{round-each}
 
 -- ---- a SYNC
@@ -123,8 +123,8 @@ module _ (d : Domain) (t : VirtualLocalTime) (counter : ℕ) (f : Fup) (h : d .n
       by-follow Fits (d .settings .«confirmation_time») (d .sending) t counter room (refused-fits NoOpenSync)
       (refused-fits NoRoom) (λ from at told many. refused-fits Ovs)
       (λ from at told few has-room.
-      with-fits (ovsOf from at t) (wholeOf from at t .1) at (subst OpenBelow (told .held) below) (omega (arith, few))
-      (omega arith))
+      with-fits (ovsOf from at t) (wholeOf from at t .1) at
+      (omega (arith, subst OpenBelow (told .held) below)) (omega (arith, few)) (omega arith))
 
   call-fits :
       (kept : VirtualLocalTime) (asked length : ℕ) → OpenBelow (d .sending) →
@@ -135,12 +135,10 @@ module _ (d : Domain) (t : VirtualLocalTime) (counter : ℕ) (f : Fup) (h : d .n
       (refused-fits Reading) (refused-fits NoDomain)
 
 pub fup-read-back :
-    (n : Node) (domain : ℕ) (t : VirtualLocalTime) (counter : ℕ) (out : List ℕ) (f : Fup) →
+    (n : Node) (domain : ℕ) (t : VirtualLocalTime) (counter : ℕ) (out : List ℕ) →
     let d = recordAt (n .domains) (domain % places) in
-    let answer = nodeConfirmOf n domain t counter (length out) .answer in
-    d .number < places → OpenBelow (d .sending) → answer ≡ Followed f →
-    readOf (take 8 (confirmedBytes answer n domain out)) ≡ Values (fup f)
-fup-read-back n domain t counter out f h o e =
+    d .number < places → OpenBelow (d .sending) → FupBack n domain t counter out
+fup-read-back n domain t counter out h o f e =
     let d = recordAt (n .domains) (domain % places) in
     let bytes = bytesOf (d .settings .ids) (fup f) in
     ap (λ (a : ConfirmAnswer). readOf (take 8 (confirmedBytes a n domain out))) e
@@ -167,11 +165,9 @@ module _ (n : Node) (good : Good n) where
   good-sync-back t = sync-read-back (n .domains) (n .round) t (n .«syncs_per_cycle») number-below
 
   pub good-fup-back :
-      (domain : ℕ) (t : VirtualLocalTime) (counter : ℕ) (out : List ℕ) (f : Fup) →
-      let answer = nodeConfirmOf n domain t counter (length out) .answer in
-      answer ≡ Followed f → readOf (take 8 (confirmedBytes answer n domain out)) ≡ Values (fup f)
-  good-fup-back domain t counter out f =
+      (domain : ℕ) (t : VirtualLocalTime) (counter : ℕ) (out : List ℕ) → FupBack n domain t counter out
+  good-fup-back domain t counter out =
       let d = recordAt (n .domains) (domain % places) in
       let below : domain % places < places = omega arith in
-      fup-read-back n domain t counter out f (number-below (domain % places) below)
+      fup-read-back n domain t counter out (number-below (domain % places) below)
       (open-below (d .settings .role) d (good .records (domain % places) below .role))

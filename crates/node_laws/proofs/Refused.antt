@@ -20,7 +20,7 @@ use Rattle.node_call.specs.Calls.{
   answerTo,
   numberIn,
 }
-use Rattle.node_laws.specs.Refused.{zeros, refusedBy}
+use Rattle.node_laws.specs.Refused.{IsRefused, zeros, refusedBy}
 use Rattle.node_laws.proofs.Laws.{refusal-keeps-bytes}
 
 read-zeros : (a : ReadAnswer) → (readNumber a ≡ 0 → ⊥) → readValues a ≡ zeros
@@ -28,8 +28,7 @@ read-zeros (Time shown) e = absurd (e refl)
 read-zeros (Refused refusal) e = refl
 
 pub refused-zeros :
-    (n : Node) (c : Call) → (numberIn (answerTo n c) ≡ 0 → ⊥) →
-    answerTo n c ≡ refusedBy (numberIn (answerTo n c)) c
+    (n : Node) (c : Call) → IsRefused n c → answerTo n c ≡ refusedBy (numberIn (answerTo n c)) c
 refused-zeros n (frame t bytes) e = refl
 refused-zeros n (read domain t) e =
     let answer = nodeReadOf n domain t in ap (shows (readNumber answer)) (read-zeros answer e)

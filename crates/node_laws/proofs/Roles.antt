@@ -52,6 +52,7 @@ use Rattle.node_laws.specs.Apart.{
   Elsewhere,
   Own,
   isOwn,
+  SettingsStay,
   NoMaster,
   OthersElsewhere,
   Undisturbed,
@@ -63,33 +64,30 @@ use Rattle.node_laws.proofs.Interleaved.{own-is, undisturbed}
 -- ---- a call on one record leaves its settings
 
 module _ (d : Domain) (kept t : VirtualLocalTime) where
-  abbrev Leaves : Domain → Type 0
-  Leaves after = after .settings ≡ d .settings
-
-  fup-leaves : (j : Joined) (f : Fup) → Leaves (fupAs j d f .domain)
+  fup-leaves : (j : Joined) (f : Fup) → SettingsStay d (fupAs j d f .domain)
   fup-leaves (not-joined refusal) f = refl
   fup-leaves (With p) f = refl
 
-  kind-leaves : (values : Frame) → Leaves (kindOf d t values .domain)
-  kind-leaves (sync s) = either (λ (r : FrameStep). Leaves (r .domain)) (takesSync d t s) refl refl
+  kind-leaves : (values : Frame) → SettingsStay d (kindOf d t values .domain)
+  kind-leaves (sync s) = either (λ (r : FrameStep). SettingsStay d (r .domain)) (takesSync d t s) refl refl
   kind-leaves (fup f) = fup-leaves (joinedOf (d .settings .«follow_up_time») (d .pairing) t f) f
 
-  frame-leaves : (a : FrameAdmission) (bytes : List ℕ) → Leaves (frameCallAs a d kept t bytes .domain)
+  frame-leaves : (a : FrameAdmission) (bytes : List ℕ) → SettingsStay d (frameCallAs a d kept t bytes .domain)
   frame-leaves (refused refusal) bytes = refl
   frame-leaves (admitted values) bytes =
-      either (λ (r : FrameStep). Leaves (r .domain)) (isTaken (d .settings .mode) (d .settings .ids) bytes)
+      either (λ (r : FrameStep). SettingsStay d (r .domain)) (isTaken (d .settings .mode) (d .settings .ids) bytes)
       (kind-leaves values) refl
 
-  set-leaves : (a : Admission) (s ns : ℕ) → Leaves (setCallAs a d kept t s ns .domain)
+  set-leaves : (a : Admission) (s ns : ℕ) → SettingsStay d (setCallAs a d kept t s ns .domain)
   set-leaves (Refused refusal) s ns = refl
-  set-leaves Admitted s ns = either (λ (r : SetStep). Leaves (r .domain)) (leb ns 999999999) refl refl
+  set-leaves Admitted s ns = either (λ (r : SetStep). SettingsStay d (r .domain)) (leb ns 999999999) refl refl
 
-  followed-leaves : (f : Follow) (counter : ℕ) → Leaves (confirmAs f d counter .domain)
+  followed-leaves : (f : Follow) (counter : ℕ) → SettingsStay d (confirmAs f d counter .domain)
   followed-leaves (following ovs nanoseconds at) counter = refl
   followed-leaves (not-following refusal) counter = refl
 
   confirm-leaves :
-      (a : Admission) (counter length : ℕ) → Leaves (confirmCallAs a d kept t counter length .domain)
+      (a : Admission) (counter length : ℕ) → SettingsStay d (confirmCallAs a d kept t counter length .domain)
   confirm-leaves (Refused refusal) counter length = refl
   confirm-leaves Admitted counter length =
       followed-leaves (followOf (d .settings .«confirmation_time») (d .sending) t counter (leb 8 length)) counter
@@ -103,7 +101,8 @@ abbrev settingsIn : Domain → DomainSettings
 settingsIn d = d .settings
 
 pub own-settings :
-    (n : Node) (c : Call) (i : ℕ) → Own c i → i < length (n .domains) → settingsAt (nodeAfter n c) i ≡ settingsAt n i
+    (n : Node) (c : Call) (i : ℕ) → Own c i → i < length (n .domains) →
+    SettingsStay (recordAt (n .domains) i) (recordAt (nodeAfter n c .domains) i)
 own-settings n (frame t bytes) i o h =
     let at = addressedBy bytes in
     let d = recordAt (n .domains) at in

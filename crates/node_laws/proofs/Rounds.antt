@@ -133,4 +133,4 @@ module _ (ds : List Domain) (first : ℕ) (t : VirtualLocalTime) (most : ℕ) wh
   count-bound = omega (arith, goes-count places (first % places) 0 most t ds first .0)
 
   pub count-sixteen : length (roundOf ds first t most .frames) ≤ 16
-  count-sixteen = goes-count places (first % places) 0 most t ds first .1
+  count-sixteen = omega (arith, goes-count places (first % places) 0 most t ds first .1)

@@ -51,65 +51,61 @@ use Rattle.node.specs.Frame.{addressedBy}
 use Rattle.node.specs.declared.cycles.NodeCycle.{NodeCycle}
 use Rattle.node.specs.Cycle.{isRoomFor}
 use Rattle.node_call.specs.Calls.{Call, frame, read, set, cycle, confirm, nodeAfter, nodeAfterAll}
-use Rattle.node_laws.specs.Good.{BaseSet}
-
--- ---- what a step keeps of a record
-abbrev Stays : Domain → Domain → Type 0
-Stays d after = BaseSet (d .base) → BaseSet (after .base)
+use Rattle.node_laws.specs.Good.{BaseStays}
 
 -- ---- a call on one record
 
 module _ (d : Domain) (kept t : VirtualLocalTime) where
   -- ---- a frame
 
-  fup-stays : (j : Joined) (f : Fup) → Stays d (fupAs j d f .domain)
+  fup-stays : (j : Joined) (f : Fup) → BaseStays d (fupAs j d f .domain)
   fup-stays (not-joined refusal) f h = h
   fup-stays (With p) f h = tt
 
-  kind-stays : (values : Frame) → Stays d (kindOf d t values .domain)
-  kind-stays (sync s) = either (λ (r : FrameStep). Stays d (r .domain)) (takesSync d t s) (λ h. h) (λ h. h)
+  kind-stays : (values : Frame) → BaseStays d (kindOf d t values .domain)
+  kind-stays (sync s) = either (λ (r : FrameStep). BaseStays d (r .domain)) (takesSync d t s) (λ h. h) (λ h. h)
   kind-stays (fup f) = fup-stays (joinedOf (d .settings .«follow_up_time») (d .pairing) t f) f
 
-  frame-stays : (a : FrameAdmission) (bytes : List ℕ) → Stays d (frameCallAs a d kept t bytes .domain)
+  frame-stays : (a : FrameAdmission) (bytes : List ℕ) → BaseStays d (frameCallAs a d kept t bytes .domain)
   frame-stays (refused refusal) bytes = λ h. h
   frame-stays (admitted values) bytes =
-      either (λ (r : FrameStep). Stays d (r .domain)) (isTaken (d .settings .mode) (d .settings .ids) bytes)
+      either (λ (r : FrameStep). BaseStays d (r .domain)) (isTaken (d .settings .mode) (d .settings .ids) bytes)
       (kind-stays values) (λ h. h)
 
   -- ---- a set
 
-  set-stays : (a : Admission) (s ns : ℕ) → Stays d (setCallAs a d kept t s ns .domain)
+  set-stays : (a : Admission) (s ns : ℕ) → BaseStays d (setCallAs a d kept t s ns .domain)
   set-stays (Refused refusal) s ns = λ h. h
   set-stays Admitted s ns =
-      either (λ (r : SetStep). Stays d (r .domain)) (leb ns 999999999) (λ h. tt) (λ h. h)
+      either (λ (r : SetStep). BaseStays d (r .domain)) (leb ns 999999999) (λ h. tt) (λ h. h)
 
   -- ---- a confirmation
 
-  followed-stays : (f : Follow) (counter : ℕ) → Stays d (confirmAs f d counter .domain)
+  followed-stays : (f : Follow) (counter : ℕ) → BaseStays d (confirmAs f d counter .domain)
   followed-stays (following ovs nanoseconds at) counter h = h
   followed-stays (not-following refusal) counter h = h
 
   confirm-stays :
       (a : Admission) (counter : ℕ) (out : List ℕ) →
-      Stays d (confirmCallAs a d kept t counter (length out) .domain)
+      BaseStays d (confirmCallAs a d kept t counter (length out) .domain)
   confirm-stays (Refused refusal) counter out = λ h. h
   confirm-stays Admitted counter out =
       followed-stays (followOf (d .settings .«confirmation_time») (d .sending) t counter (leb 8 (length out))) counter
 
 -- ---- a turn
 
-send-stays : (due : Due) (d : Domain) (t : VirtualLocalTime) → Stays d (sendAs due d t .domain)
+send-stays : (due : Due) (d : Domain) (t : VirtualLocalTime) → BaseStays d (sendAs due d t .domain)
 send-stays (At seconds nanoseconds) d t h = h
 send-stays No d t h = h
 
-turn-stays : (may : Bool) (d : Domain) (t : VirtualLocalTime) → Stays d (turnOf may d t .domain)
-turn-stays may d t = either (λ (r : SendStep). Stays d (r .domain)) may (send-stays (dueIn d t) d t) (λ h. h)
+turn-stays : (may : Bool) (d : Domain) (t : VirtualLocalTime) → BaseStays d (turnOf may d t .domain)
+turn-stays may d t = either (λ (r : SendStep). BaseStays d (r .domain)) may (send-stays (dueIn d t) d t) (λ h. h)
 
 -- ---- a record stored at a place; beyond the records, nothing is
 
 put-stays :
-    (ds : List Domain) (i at : ℕ) (d : Domain) → Stays (recordAt ds at) d →
-    Stays (recordAt ds i) (recordAt (put ds at d) i)
+    (ds : List Domain) (i at : ℕ) (d : Domain) → BaseStays (recordAt ds at) d →
+    BaseStays (recordAt ds i) (recordAt (put ds at d) i)
 put-stays [] i at d s h = h
 put-stays (x ∷ rest) zero zero d s h = s h
 put-stays (x ∷ rest) zero (suc at) d s h = h
@@ -120,7 +116,7 @@ put-stays (x ∷ rest) (suc i) (suc at) d s h = put-stays rest i at d s h
 
 goes-stays :
     (k at sent most : ℕ) (t : VirtualLocalTime) (ds : List Domain) (next i : ℕ) →
-    Stays (recordAt ds i) (recordAt (goes k at sent most t ds next .domains) i)
+    BaseStays (recordAt ds i) (recordAt (goes k at sent most t ds next .domains) i)
 unfolding goes
 goes-stays zero at sent most t ds next i h = h
 goes-stays (suc k) at sent most t ds next i h =
@@ -132,8 +128,7 @@ goes-stays (suc k) at sent most t ds next i h =
 -- ---- a call
 
 pub base-stays :
-    (n : Node) (c : Call) (i : ℕ) →
-    BaseSet (recordAt (n .domains) i .base) → BaseSet (recordAt (nodeAfter n c .domains) i .base)
+    (n : Node) (c : Call) (i : ℕ) → BaseStays (recordAt (n .domains) i) (recordAt (nodeAfter n c .domains) i)
 base-stays n (frame t bytes) i =
     let d = recordAt (n .domains) (addressedBy bytes) in
     put-stays (n .domains) i (addressedBy bytes) _
@@ -144,7 +139,7 @@ base-stays n (set domain t s ns) i =
     put-stays (n .domains) i (domain % places) _
     (set-stays d (n .kept) t (admittedOf (n .kept) t (d .number) (d .settings .role) domain Master) s ns)
 base-stays n (cycle t out) i =
-    let P : NodeCycle → Type 0 = λ r. Stays (recordAt (n .domains) i) (recordAt (r .node .domains) i) in
+    let P : NodeCycle → Type 0 = λ r. BaseStays (recordAt (n .domains) i) (recordAt (r .node .domains) i) in
     either P (isGoodReading (n .kept) t)
     (either P (isRoomFor n (length out))
     (goes-stays places (n .round % places) 0 (n .«syncs_per_cycle») t (n .domains) (n .round) i) (λ h. h))
@@ -155,7 +150,6 @@ base-stays n (confirm domain t counter out) i =
     (confirm-stays d (n .kept) t (admittedOf (n .kept) t (d .number) (d .settings .role) domain Master) counter out)
 
 pub bases-stay :
-    (n : Node) (cs : List Call) (i : ℕ) →
-    BaseSet (recordAt (n .domains) i .base) → BaseSet (recordAt (nodeAfterAll n cs .domains) i .base)
+    (n : Node) (cs : List Call) (i : ℕ) → BaseStays (recordAt (n .domains) i) (recordAt (nodeAfterAll n cs .domains) i)
 bases-stay n [] i h = h
 bases-stay n (c ∷ rest) i h = bases-stay (nodeAfter n c) rest i (base-stays n c i h)

@@ -6,7 +6,7 @@
 -- Assumes nothing.
 use Prim.Native.Nat.{ℕ, _%_}
 use mathlib.Core.Path.{_≡_, refl, ap, _∙_}
-use mathlib.Core.Logic.{_⊎_, inl, inr}
+use mathlib.Core.Logic.{inl, inr}
 use mathlib.Core.Bool.{Bool, true, false, cond}
 use mathlib.Core.List.{List}
 use lib.ListN.{length}
@@ -59,7 +59,7 @@ use Rattle.node_call.specs.Calls.{
   follows,
   answerTo,
 }
-use Rattle.node_laws.specs.Apart.{Own, AllElsewhere, keeping, Timely}
+use Rattle.node_laws.specs.Apart.{Own, AllElsewhere, keeping, readingIn, Timely, OwnSent}
 use Rattle.node_laws.proofs.Independent.{independent}
 
 -- ---- an admitted call does not look at the kept reading
@@ -103,24 +103,29 @@ module _ (n : Node) (k t : VirtualLocalTime) (out : List ℕ) where
 abbrev pub forMaster : Domain → (asked : ℕ) → Admission
 forMaster d asked = cond (isFor (d .number) (d .settings .role) asked Master) Admitted (Refused not-for)
 
-pub through-one :
-    (n : Node) (k : VirtualLocalTime) (c : Call) → Timely n c → Timely (keeping n k) c →
-    answerTo (keeping n k) c ≡ answerTo n c
-through-one n k (frame t bytes) p q =
+same-answer :
+    (n : Node) (k : VirtualLocalTime) (c : Call) → isGoodReading (n .kept) (readingIn c) ≡ true →
+    isGoodReading k (readingIn c) ≡ true → answerTo (keeping n k) c ≡ answerTo n c
+same-answer n k (frame t bytes) p q =
     let d = recordAt (n .domains) (addressedBy bytes) in
     let admission = readFor (readOf bytes) (d .number) (d .settings .role) in
     rw (p, q)
     (ap (λ (a : FrameAnswer). numbered (frameNumber a)) (frame-same d k (n .kept) t admission bytes))
-through-one n k (read domain t) p q = rw (p, q) refl
-through-one n k (set domain t s ns) p q =
+same-answer n k (read domain t) p q = rw (p, q) refl
+same-answer n k (set domain t s ns) p q =
     let d = recordAt (n .domains) (domain % places) in
     rw (p, q)
     (ap (λ (a : SetAnswer). numbered (setNumber a)) (set-same d k (n .kept) t (forMaster d domain) s ns))
-through-one n k (cycle t out) p q = rw (p, q) (cycle-same n k t out (isRoomFor n (length out)))
-through-one n k (confirm domain t counter out) p q =
+same-answer n k (cycle t out) p q = rw (p, q) (cycle-same n k t out (isRoomFor n (length out)))
+same-answer n k (confirm domain t counter out) p q =
     let d = recordAt (n .domains) (domain % places) in
     let told : ConfirmAnswer → Answer = λ a. follows (confirmNumber a) (confirmedBytes a n domain out) in
     rw (p, q) (ap told (confirm-same d k (n .kept) t (forMaster d domain) counter (length out)))
+
+pub through-one :
+    (n : Node) (k : VirtualLocalTime) (c : Call) → Timely n c → Timely (keeping n k) c →
+    answerTo (keeping n k) c ≡ answerTo n c
+through-one n k c p q = same-answer n k c p q
 
 -- ---- calls for other domains
 
@@ -133,14 +138,9 @@ save-number-one n cs c i e o p q = independent n cs c i e o ∙ through-one n (n
 
 pub cycle-own :
     (n : Node) (t : VirtualLocalTime) (out : List ℕ) (i : ℕ) → length (n .domains) ≡ places →
-    let before = recordAt (n .domains) i in
-    let after = recordAt (nodeAfter n (cycle t out) .domains) i in
-    (after ≡ before) ⊎ (after ≡ sendOf before t .domain)
+    OwnSent (recordAt (n .domains) i) t (recordAt (nodeAfter n (cycle t out) .domains) i)
 cycle-own n t out i size =
-    let before = recordAt (n .domains) i in
-    let P : NodeCycle → Type 0 =
-    λ r. (recordAt (r .node .domains) i ≡ before) ⊎ (recordAt (r .node .domains) i ≡ sendOf before t .domain)
-    in
+    let P : NodeCycle → Type 0 = λ r. OwnSent (recordAt (n .domains) i) t (recordAt (r .node .domains) i) in
     let served = servedOf (n .domains) (n .round) t (n .«syncs_per_cycle») in
     let told = first-due (n .domains) (n .round) t (n .«syncs_per_cycle») size in
     either P (isGoodReading (n .kept) t)

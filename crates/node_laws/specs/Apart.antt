@@ -2,13 +2,16 @@
 -- 1 and, for masters, through S and the round": which calls are for a domain. Assumes nothing.
 use Prim.Native.Nat.{ℕ, _%_, _≤_}
 use mathlib.Core.Path.{_≡_}
+use mathlib.Core.Logic.{_⊎_}
 use mathlib.Core.Bool.{Bool, true, false, cond}
 use mathlib.Core.List.{List, [], _∷_}
 use lib.Dec.{eqb}
 use Rattle.clock.specs.declared.reading.VirtualLocalTime.{VirtualLocalTime}
 use Rattle.admission.specs.Reading.{isGoodReading}
 use Rattle.master_rules.specs.Due.{isMaster}
+use Rattle.master_send.specs.Send.{sendOf}
 use Rattle.settings.specs.Node.{places}
+use Rattle.domain.specs.declared.Domain.{Domain}
 use Rattle.domain.specs.Records.{recordAt}
 use Rattle.node.specs.declared.Node.{Node}
 use Rattle.node.specs.Frame.{addressedBy}
@@ -92,6 +95,14 @@ abbrev pub ownAnswers : Node → List Call → (i : ℕ) → List Answer
 ownAnswers n [] i = []
 ownAnswers n (c ∷ rest) i =
     let later = ownAnswers (nodeAfter n c) rest i in cond (isOwn c i) (answerTo n c ∷ later) later
+
+-- ---- A call for a domain leaves the settings in its record; a main cycle leaves a record as it was, or as the SYNC
+-- makes it that the record itself sends.
+abbrev pub SettingsStay : (before after : Domain) → Type 0
+SettingsStay before after = after .settings ≡ before .settings
+
+abbrev pub OwnSent : (before : Domain) → VirtualLocalTime → (after : Domain) → Type 0
+OwnSent before t after = (after ≡ before) ⊎ (after ≡ sendOf before t .domain)
 
 -- ---- The domain at place i is no master's.
 abbrev pub NoMaster : Node → (i : ℕ) → Type 0

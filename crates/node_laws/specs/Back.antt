@@ -17,6 +17,7 @@ use Rattle.frame_read.specs.declared.Read.the-variants.{Values}
 use Rattle.frame_read.specs.Read.{readOf}
 use Rattle.frame_write.specs.Write.{bytesOf}
 use Rattle.frame_laws.specs.RoundTrip.{AreBytes, zeroReserved, rightIfSecured}
+use Rattle.settings.specs.Node.{places}
 use Rattle.domain.specs.declared.Domain.{Domain}
 use Rattle.domain.specs.declared.Sending.{Sending}
 use Rattle.domain.specs.declared.Sending.the-variants.{Never, Open, Confirmed}
@@ -42,6 +43,12 @@ pub record SyncBack (ds : List Domain) (t : VirtualLocalTime) (frame : List ℕ)
   pub sent : sendOf (recordAt ds place) t .answer ≡ Sent values
   pub bytes : frame ≡ bytesOf (recordAt ds place .settings .ids) (sync values)
   pub back : readOf frame ≡ Values (sync values)
+
+-- ---- what holds of the frame that a record sends, if it sends one
+abbrev pub OfSent : (List ℕ → Type 0) → VirtualLocalTime → List Domain → Type 0
+OfSent P t ds =
+    (i : ℕ) → i < places → (values : Sync) → sendOf (recordAt ds i) t .answer ≡ Sent values →
+    P (bytesOf (recordAt ds i .settings .ids) (sync values))
 
 -- ---- an open SYNC's counter is one
 abbrev pub OpenBelow : Sending → Type 0

@@ -20,12 +20,8 @@ use Rattle.node_call.specs.Calls.{Call, cycle, nodeAfter, sends, answerTo, numb
 use Rattle.node_laws.specs.Reachable.{Reachable}
 use Rattle.node_laws.specs.Due.{dueCount}
 use Rattle.node_laws.specs.Tests.{firstOf, testsOf, newTests}
-use Rattle.node_laws.specs.Refused.{refusedBy}
+use Rattle.node_laws.specs.Refused.{IsRefused, refusedBy}
 use Rattle.node_laws.specs.Back.{joined, SyncBack, AcceptedBack}
-
--- ---- the call is refused: its number is not 0
-abbrev pub IsRefused : Node → Call → Type 0
-IsRefused n c = numberIn (answerTo n c) ≡ 0 → ⊥
 
 -- ---- Demand 1, on every node and every argument: "The call tests in the order of the numbers, as far as each
 -- concerns it. A refused call returns the number and zeros; state and lent bytes stay."

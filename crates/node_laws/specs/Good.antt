@@ -56,6 +56,10 @@ abbrev pub BaseSet : Held → Type 0
 BaseSet Unset = ⊥
 BaseSet (Set b) = Unit {0}
 
+-- ---- a base once set stays set
+abbrev pub BaseStays : (before after : Domain) → Type 0
+BaseStays before after = BaseSet (before .base) → BaseSet (after .base)
+
 abbrev pub SentWithin : (kept : VirtualLocalTime) → Held → (next : ℕ) → Sending → Type 0
 SentWithin kept base next Never = next ≡ 0
 SentWithin kept base next (open-sync counter seconds nanoseconds at) =

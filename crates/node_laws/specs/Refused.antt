@@ -1,7 +1,9 @@
 -- Paper 01, "Refusal numbers": "A refused call returns the number and zeros; state and lent bytes stay." Assumes
 -- nothing.
 use Prim.Native.Nat.{ℕ}
+use mathlib.Core.Path.{_≡_}
 use Rattle.call_read.specs.declared.Shown.{Shown}
+use Rattle.node.specs.declared.Node.{Node}
 use Rattle.node_call.specs.Calls.{
   Call,
   frame,
@@ -14,7 +16,13 @@ use Rattle.node_call.specs.Calls.{
   shows,
   sends,
   follows,
+  answerTo,
+  numberIn,
 }
+
+-- ---- the call is refused: its number is not 0
+abbrev pub IsRefused : Node → Call → Type 0
+IsRefused n c = numberIn (answerTo n c) ≡ 0 → ⊥
 
 -- ---- what a refused read shows
 abbrev pub zeros : Shown
