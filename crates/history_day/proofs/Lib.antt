@@ -2,3 +2,4 @@
 pub mod Tests
 pub mod Day
 pub mod Edges
+pub mod Altered

@@ -1,5 +1,6 @@
 -- What demand 3 asks of a history, as tests that antt computes, and what the two sentences then say. No contract
 -- cites this file.
+--   same-true   lists that pass the test are the same
 --   linked-by   a link, from its parts
 --   fair        a history that passes the test at each of its calls is fair
 --   held-met    what is gathered of the first sentence is all that it asks
@@ -67,13 +68,13 @@ use Rattle.history.proofs.One.{not-after}
 use Rattle.history_day.specs.Met.{HeldMet, TakenFrom}
 
 -- ---- a heard frame is a copy of one of the frames sent
-abbrev same : List ℕ → List ℕ → Bool
+abbrev pub same : List ℕ → List ℕ → Bool
 same [] [] = true
 same [] (b ∷ m) = false
 same (a ∷ l) [] = false
 same (a ∷ l) (b ∷ m) = eqb a b && same l m
 
-same-true : (l m : List ℕ) → same l m ≡ true → l ≡ m
+pub same-true : (l m : List ℕ) → same l m ≡ true → l ≡ m
 same-true [] [] e = refl
 same-true [] (b ∷ m) e = cc
 same-true (a ∷ l) [] e = cc

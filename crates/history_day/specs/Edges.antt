@@ -16,7 +16,7 @@ use Rattle.history.specs.Demand.{Copy}
 use Rattle.history_day.specs.Settings.{arrives, confirmsIn, copyOf, slaveFor, absents, noIds, millis, ms}
 
 -- ---- domain 0, plain frames, J 1, L 2 s, one clock; P, E, F and C in milliseconds
-abbrev edgeWith : (p e f c : ℕ) → Link
+abbrev pub edgeWith : (p e f c : ℕ) → Link
 edgeWith p e f c =
     record {
       master =
@@ -36,7 +36,7 @@ edgeWith p e f c =
     }
 
 -- ---- The domain is set to 1000 s at 1 s. SYNC n is sent at 1 s and n periods of p ms: so many of them from one on.
-abbrev sets : Event
+abbrev pub sets : Event
 sets = atMaster (set 0 (ms 1000) 1000 0)
 
 abbrev syncsEvery : (p first count : ℕ) → History
@@ -44,17 +44,17 @@ syncsEvery p first zero = []
 syncsEvery p first (suc count) =
     atMaster (cycle (ms (1000 + p * (first + count))) (replicate 8 0)) ∷ syncsEvery p first count
 
-abbrev syncs : (first count : ℕ) → History
+abbrev pub syncs : (first count : ℕ) → History
 syncs = syncsEvery 100
 
-abbrev syncsWithin : (first count : ℕ) → History
+abbrev pub syncsWithin : (first count : ℕ) → History
 syncsWithin = syncsEvery 10
 
-abbrev confirms : (t counter : ℕ) → Event
+abbrev pub confirms : (t counter : ℕ) → Event
 confirms t counter = confirmsIn 0 t counter
 
 -- ---- SYNC 0, of 1000.0 s, and SYNC 16, of 1001.6 s
-abbrev sync0 : List ℕ
+abbrev pub sync0 : List ℕ
 sync0 = 0x10 ∷ 0x00 ∷ 0x00 ∷ 0x00 ∷ 0x00 ∷ 0x00 ∷ 0x03 ∷ 0xE8 ∷ []
 
 abbrev sync16 : List ℕ

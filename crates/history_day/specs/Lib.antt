@@ -3,3 +3,4 @@ pub mod Met
 pub mod Settings
 pub mod Day
 pub mod Edges
+pub mod Altered
