@@ -1,21 +1,23 @@
 -- Each statement of demand 3 that a must-fail edit of `history` alters is false: antt computes a history that refutes
--- it. The laws are called by the edits. Unaltered, the same forms hold, so it is what the edit alters that is false. For
--- the edits of the three bounds see `follow-up-exceeded`, `confirmation-exceeded` and `loss-exceeded`. No contract
--- cites this file.
---   held-unaltered, near-unaltered, one-unaltered, confirms-unaltered, taken-unaltered, heard-unaltered
+-- it. The laws have the names of the edits. As the demand has them, the same forms hold, so what is false is what the
+-- edit alters. Of the edits of the three bounds see `follow-up-exceeded`, `confirmation-exceeded` and `loss-exceeded`.
+-- No contract cites this file.
+--   held-unaltered, over-unaltered, near-unaltered, one-unaltered, confirms-unaltered, taken-unaltered,
+--   heard-unaltered
 --                                  the forms as the demand has them hold
 --   copy-up-to-twice-e-false       a copy twice E late: the FUP of the SYNC 16 later is joined to it
 --   set-met                        a history with a set between a SYNC, 1 ns before a full second, and its
 --                                  confirmation, 1 ns later, meets all of the first sentence
---   base-at-the-sync-false, ovs-dropped-false, time-set-after-the-sync-false, tied-to-the-fup-false
+--   base-at-the-sync-false, ovs-dropped-false, time-set-after-the-sync-false, tied-to-the-fup-false,
+--   confirmed-at-the-sync-false, counter-of-the-next-sync-false
 --                                  it refutes these
 --   never-behind-false             by the time that is E behind
 --   never-ahead-false              by the time that is C ahead
 --   tied-at-any-reading-false      by the time tied anew
+--   clocks-met                     a history where the slave's clock is more than E behind the master's meets all
+--   held-at-any-reading-false      it refutes that such times are held
 --   alike-of-one                   a history within one second, where SYNC 16's pair is taken
 --   all-alike-are-copied-false     SYNC 0 has its bytes
---   confirmed-at-the-sync-false, counter-of-the-next-sync-false
---                                  by the SYNC that is confirmed C later
 --   round-met                      a history where two pairs are taken, of counter 15 and then of 0
 --   first-pair-only-false          before the second, the base is the first's
 --   no-modulo-false                the second is answered 0
@@ -69,6 +71,7 @@ use Rattle.history_day.specs.Edges.{
   anewBase,
   nearLink,
   nearSync,
+  behindFup,
   behindDay,
   behindBase,
   aheadFup,
@@ -87,12 +90,14 @@ use Rattle.history_day.specs.Altered.{
   OvsDropped,
   TimeSetAfterTheSync,
   TiedToTheFup,
+  HeldOver,
   CopyUpToTwiceE,
   NearBy,
   NeverBehind,
   NeverAhead,
   anyReading,
   TiedAtAnyReading,
+  HeldAtAnyReading,
   OneBy,
   AllAlikeAreCopied,
   ConfirmsBy,
@@ -112,6 +117,9 @@ use Rattle.history_day.specs.Altered.{
   setFup,
   setDay,
   setBase,
+  clocksLink,
+  clocksDay,
+  clocksBase,
   syncWithin,
   sentWithin,
   alikeFup,
@@ -130,7 +138,7 @@ use Rattle.history_day.specs.Altered.{
   listsSync,
 }
 use Rattle.history_day.proofs.Tests.{same, same-true, linked-by, fair, held-met, taken-met}
-use Rattle.history_day.proofs.Edges.{follow-up-wrong, anew-met, behind-by-e, ahead-by-c, loss-met}
+use Rattle.history_day.proofs.Edges.{under-exceed, follow-up-wrong, anew-met, behind-by-e, ahead-by-c, loss-met}
 
 -- ---- the forms as the demand has them
 abbrev as-told : (k : Link) (h : History) (b : TimeBase) → TimeOfOne k h b → TimeOf unaltered k h b
@@ -170,6 +178,9 @@ as-one k h b told =
 pub held-unaltered : HeldBy unaltered
 held-unaltered k exceed h f b holds =
     as-told k h b (held-met k h b (record { fair = f; exceed = exceed; holds = holds }) each-time-held)
+
+pub over-unaltered : HeldOver (λ k. k)
+over-unaltered = under-exceed each-time-held
 
 pub near-unaltered : NearBy unaltered byE byC
 near-unaltered k h f b told =
@@ -377,6 +388,30 @@ unfolding anew-told
 tied-at-any-reading-false each =
     omega (arith, each anewLink anewDay (anew-met .fair) anewBase anew-told .behind)
 
+-- ---- clocks that differ
+clocks-linked : Linked clocksLink
+clocks-linked = linked-by _ (omega arith) refl refl refl refl refl refl
+
+pub clocks-met : HeldMet clocksLink clocksDay clocksBase
+unfolding goes
+clocks-met =
+    record {
+      fair = fair clocksLink clocks-linked refl clocksDay refl;
+      exceed = record { follow-up = omega arith; confirmation = omega arith };
+      holds = refl;
+    }
+
+clocks-sent : behindFup ∷ nearSync ∷ [] ≡ sentIn clocksLink clocksDay
+unfolding goes
+clocks-sent = refl
+
+pub held-at-any-reading-false : HeldAtAnyReading → ⊥
+held-at-any-reading-false each =
+    let told = each clocksLink (clocks-met .exceed) clocksDay (clocks-met .fair) clocksBase (clocks-met .holds) in
+    let pair =
+    only-pair (told .newer) (told .older) (told .fup) (told .sync) behindFup nearSync (clocks-sent ∙ told .sent) in
+    omega (arith, told .copied .soon, ap (λ (s : Sent). s .at .0) (pair .1))
+
 -- ---- SYNCs alike
 alike-sent : alikeFup ∷ sentWithin 0 17 ≡ sentIn anewLink alikeDay
 unfolding goes
@@ -415,24 +450,20 @@ all-alike-are-copied-false each =
     omega (arith, ap (λ (s : Sent). s .at .0) same)
 
 -- ---- confirmations
-ahead-sent : sentIn nearLink aheadDay ≡ aheadFup ∷ nearSync ∷ []
-unfolding goes
-ahead-sent = refl
-
 module _ (within : Link → ℕ) (up : ℕ) (each : EachConfirmsBy within up) where
-  ahead-confirms : ConfirmsBy (within nearLink) up aheadFup (nearSync ∷ [])
-  ahead-confirms = each nearLink aheadDay (ahead-by-c .met .fair) [] (nearSync ∷ []) aheadFup ahead-sent refl
+  set-confirms : ConfirmsBy (within nearLink) up setFup (setSync ∷ [])
+  set-confirms = each nearLink setDay (set-met .fair) [] (setSync ∷ []) setFup (sym set-sent) refl
 
-  ahead-sync : nearSync ≡ ahead-confirms .sync
-  ahead-sync = cc (ahead-confirms .next)
+  set-sync : setSync ≡ set-confirms .sync
+  set-sync = cc (set-confirms .next)
 
 pub confirmed-at-the-sync-false : ConfirmedAtTheSync → ⊥
 confirmed-at-the-sync-false each =
-    omega (arith, ahead-confirms _ _ each .in-time, ap (λ (s : Sent). s .at .0) (ahead-sync _ _ each))
+    omega (arith, set-confirms _ _ each .in-time, ap (λ (s : Sent). s .at .0) (set-sync _ _ each))
 
 pub counter-of-the-next-sync-false : CounterOfTheNextSync → ⊥
 counter-of-the-next-sync-false each =
-    omega (arith, ahead-confirms _ _ each .counter, ap counterIn (ahead-sync _ _ each))
+    omega (arith, set-confirms _ _ each .counter, ap counterIn (set-sync _ _ each))
 
 -- ---- a counter that goes round
 pub round-met : PairMet lossLink roundDay roundMoment [] roundFup roundSync roundOlder

@@ -55,7 +55,17 @@ use Rattle.history.specs.Demand.{
 use Rattle.history_day.specs.Met.{PairMet}
 use Rattle.history_day.specs.Settings.{arrives, copyOf, slaveFor, noIds, millis, ms}
 use Rattle.history_day.specs.Day.{dayLink}
-use Rattle.history_day.specs.Edges.{edgeWith, sets, syncs, syncsWithin, confirms, sync0}
+use Rattle.history_day.specs.Edges.{
+  edgeWith,
+  sets,
+  syncs,
+  syncsWithin,
+  confirms,
+  sync0,
+  nearLink,
+  behindFup,
+  behindBefore,
+}
 
 -- ---- The bounds E and C, and none.
 abbrev pub byE : Link → ℕ
@@ -159,6 +169,9 @@ anyReading = record { time = carriedOn; handed = λ sync fup. sync .bytes; came 
 abbrev pub TiedAtAnyReading : Type 0
 TiedAtAnyReading = NearBy anyReading byE byC
 
+abbrev pub HeldAtAnyReading : Type 0
+HeldAtAnyReading = HeldBy anyReading
+
 -- ---- `EachSyncOne`
 abbrev pub OneBy : (Sent → TimeBase → VirtualLocalTime) → Type 0
 OneBy came =
@@ -259,6 +272,25 @@ setDay =
 
 abbrev pub setBase : TimeBase
 setBase = record { time = record { 0 = 1001; 1 = 0 }; at = ms 1001 }
+
+-- ---- The slave's clock is 500 ms behind the master's, E 100 ms; a pair arrives. SYNC 0's reading, taken for one of
+-- the slave's, is 500 ms after its sending.
+abbrev pub clocksLink : Link
+clocksLink =
+    record {
+      master = nearLink .master;
+      slave = nearLink .slave;
+      domain = 0;
+      masterAdds = 0;
+      slaveAdds = millis 500;
+      e = nearLink .e;
+    }
+
+abbrev pub clocksDay : History
+clocksDay = arrives 502 (behindFup .bytes) ∷ arrives 501 sync0 ∷ behindBefore
+
+abbrev pub clocksBase : TimeBase
+clocksBase = record { time = record { 0 = 1000; 1 = 0 }; at = ms 501 }
 
 -- ---- P 10 ms: SYNC n as it is sent, and so many of them from one on
 abbrev pub syncWithin : (n : ℕ) → Sent
