@@ -31,7 +31,7 @@ use mathlib.Core.List.{List, [], _∷_, _++_}
 use native.Mathlib.Omega.{arith}
 use lib.Dec.{eqb}
 use lib.ListN.{getD, drop}
-use borrow.Author.Tests.{eqb-true, not-true}
+use borrow.Author.Tests.{not-true}
 use Rattle.promise.proofs.Tests.{both}
 use Rattle.clock.specs.declared.reading.VirtualLocalTime.{VirtualLocalTime}
 use Rattle.clock.specs.declared.time.GlobalTime.{GlobalTime}
@@ -137,7 +137,7 @@ use Rattle.history_day.specs.Altered.{
   listsDay,
   listsSync,
 }
-use Rattle.history_day.proofs.Tests.{same, same-true, linked-by, fair, held-met, taken-met}
+use Rattle.history_day.proofs.Tests.{linked-by, fair, held-met, taken-met, all-same}
 use Rattle.history_day.proofs.Edges.{under-exceed, follow-up-wrong, anew-met, behind-by-e, ahead-by-c, loss-met}
 
 -- ---- the forms as the demand has them
@@ -225,38 +225,6 @@ copy-up-to-twice-e-false each =
     follow-up-wrong .wrong
     (each halfLink (record { follow-up = omega arith; confirmation = omega arith }) followUpEdge
     (follow-up-wrong .fair) followUpBase (follow-up-wrong .holds))
-
--- ---- what is sent, by a test
-abbrev isSent : Sent → Sent → Bool
-isSent s z =
-    same (s .bytes) (z .bytes)
-    && eqb (s .at .0) (z .at .0)
-    && eqb (s .time .0) (z .time .0)
-    && eqb (s .time .1) (z .time .1)
-
-is-sent : (s z : Sent) → isSent s z ≡ true → s ≡ z
-is-sent s z e =
-    let four = both _ (eqb (s .time .1) (z .time .1)) e in
-    let three = both _ (eqb (s .time .0) (z .time .0)) (four .0) in
-    let two = both (same (s .bytes) (z .bytes)) (eqb (s .at .0) (z .at .0)) (three .0) in
-    let bytes = same-true (s .bytes) (z .bytes) (two .0) in
-    let at = eqb-true (s .at .0) (z .at .0) (two .1) in
-    let seconds = eqb-true (s .time .0) (z .time .0) (three .1) in
-    let nanoseconds = eqb-true (s .time .1) (z .time .1) (four .1) in
-    λ j. record { bytes = bytes j; at = record { 0 = at j }; time = record { 0 = seconds j; 1 = nanoseconds j } }
-
-abbrev areSent : List Sent → List Sent → Bool
-areSent [] [] = true
-areSent [] (z ∷ m) = false
-areSent (s ∷ l) [] = false
-areSent (s ∷ l) (z ∷ m) = isSent s z && areSent l m
-
-are-sent : (l m : List Sent) → areSent l m ≡ true → l ≡ m
-are-sent [] [] e = refl
-are-sent [] (z ∷ m) e = absurd (false≢true e)
-are-sent (s ∷ l) [] e = absurd (false≢true e)
-are-sent (s ∷ l) (z ∷ m) e =
-    let told = both (isSent s z) (areSent l m) e in ap₂ _∷_ (is-sent s z (told .0)) (are-sent l m (told .1))
 
 -- ---- what is handed in where
 abbrev hands : VirtualLocalTime → (kind : ℕ) → Call → Bool
@@ -357,7 +325,7 @@ never-ahead-false each =
 -- ---- a time tied anew
 anew-sent : sentWithin 1 16 ++ (aheadFup ∷ nearSync ∷ []) ≡ sentIn anewLink anewDay
 unfolding goes
-anew-sent = are-sent (sentWithin 1 16 ++ (aheadFup ∷ nearSync ∷ [])) (sentIn anewLink anewDay) refl
+anew-sent = all-same (sentWithin 1 16 ++ (aheadFup ∷ nearSync ∷ [])) (sentIn anewLink anewDay) refl
 
 anew-told : TimeOf anyReading anewLink anewDay anewBase
 anew-told =
@@ -415,7 +383,7 @@ held-at-any-reading-false each =
 -- ---- SYNCs alike
 alike-sent : alikeFup ∷ sentWithin 0 17 ≡ sentIn anewLink alikeDay
 unfolding goes
-alike-sent = are-sent (alikeFup ∷ sentWithin 0 17) (sentIn anewLink alikeDay) refl
+alike-sent = all-same (alikeFup ∷ sentWithin 0 17) (sentIn anewLink alikeDay) refl
 
 alike-fair : Fair anewLink alikeDay
 unfolding goes

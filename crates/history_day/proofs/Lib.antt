@@ -2,4 +2,5 @@
 pub mod Tests
 pub mod Day
 pub mod Edges
+pub mod Second
 pub mod Altered

@@ -1,10 +1,12 @@
 -- What demand 3 asks of a history, as tests that antt computes, and what the two sentences then say. No contract
 -- cites this file.
---   same-true   lists that pass the test are the same
 --   linked-by   a link, from its parts
 --   fair        a history that passes the test at each of its calls is fair
 --   held-met    what is gathered of the first sentence is all that it asks
 --   taken-met   what is gathered of the last sentence is all that it asks, but for the moment
+--   taken-until the last sentence is the one where FUPs may be no later
+--   all-same    lists whose sendings are the same one by one are the same
+--   every-base  a base passes a test after a part of a history where it does after every part
 --   never-set   a base that is unset after each part of a history was never set
 --   not-of-one  a base is of no SYNC where no FUP gives its time with the SYNC before it, or no copy of that SYNC can
 --               have come at its reading
@@ -65,16 +67,16 @@ use Rattle.history.specs.Demand.{
   Fair,
 }
 use Rattle.history.proofs.One.{not-after}
-use Rattle.history_day.specs.Met.{HeldMet, TakenFrom}
+use Rattle.history_day.specs.Met.{HeldMet, TakenFrom, TakenUntil}
 
 -- ---- a heard frame is a copy of one of the frames sent
-abbrev pub same : List ℕ → List ℕ → Bool
+abbrev same : List ℕ → List ℕ → Bool
 same [] [] = true
 same [] (b ∷ m) = false
 same (a ∷ l) [] = false
 same (a ∷ l) (b ∷ m) = eqb a b && same l m
 
-pub same-true : (l m : List ℕ) → same l m ≡ true → l ≡ m
+same-true : (l m : List ℕ) → same l m ≡ true → l ≡ m
 same-true [] [] e = refl
 same-true [] (b ∷ m) e = cc
 same-true (a ∷ l) [] e = cc
@@ -192,6 +194,12 @@ taken-met each k h moment newer fup sync older m late =
     each k (m .fair .linked) h (m .fair .calls) (m .fair .never-fall) (m .fair .in-range) moment (m .orderly)
     newer older fup sync (m .copies) (m .is-fup) (m .soon) (omega arith)
 
+pub taken-until : EachPairTaken → TakenUntil 0
+taken-until each k h f moment o newer older fup sync copies is-fup soon late =
+    each k (f .linked) h (f .calls) (f .never-fall) (f .in-range) moment o newer older fup sync copies is-fup
+    (omega (arith, soon))
+    late
+
 -- ---- a FUP and the SYNC before it give the time, and a copy of that SYNC can have come at its reading
 abbrev isTime : GlobalTime → GlobalTime → Bool
 isTime g g′ = eqb (g .0) (g′ .0) && eqb (g .1) (g′ .1)
@@ -232,22 +240,58 @@ not-of-one k h b fall e one =
     is-given k b (one .newer) (one .fup) (one .sync) (one .older) (one .is-fup) (one .time) (rw (first, soon) refl) in
     true≢false (sym given ∙ ap (isGiven k b) (sym (one .sent)) ∙ e)
 
--- ---- a base that was never set
+-- ---- the same sendings, one by one
+abbrev isSame : Sent → Sent → Bool
+isSame s s′ = same (s .bytes) (s′ .bytes) && eqb (s .at .0) (s′ .at .0) && isTime (s .time) (s′ .time)
+
+same-sent : (s s′ : Sent) → isSame s s′ ≡ true → s ≡ s′
+same-sent s s′ e =
+    let three = both (same (s .bytes) (s′ .bytes) && eqb (s .at .0) (s′ .at .0)) (isTime (s .time) (s′ .time)) e in
+    let two = both (same (s .bytes) (s′ .bytes)) (eqb (s .at .0) (s′ .at .0)) (three .0) in
+    let times = both (eqb (s .time .0) (s′ .time .0)) (eqb (s .time .1) (s′ .time .1)) (three .1) in
+    let bytes = same-true (s .bytes) (s′ .bytes) (two .0) in
+    let at = eqb-true (s .at .0) (s′ .at .0) (two .1) in
+    let seconds = eqb-true (s .time .0) (s′ .time .0) (times .0) in
+    let nanoseconds = eqb-true (s .time .1) (s′ .time .1) (times .1) in
+    λ i. record { bytes = bytes i; at = record { 0 = at i }; time = record { 0 = seconds i; 1 = nanoseconds i } }
+
+abbrev pub allSame : List Sent → List Sent → Bool
+allSame [] [] = true
+allSame [] (s ∷ m) = false
+allSame (s ∷ l) [] = false
+allSame (s ∷ l) (s′ ∷ m) = isSame s s′ && allSame l m
+
+pub all-same : (l m : List Sent) → allSame l m ≡ true → l ≡ m
+all-same [] [] e = refl
+all-same [] (s ∷ m) e = cc
+all-same (s ∷ l) [] e = cc
+all-same (s ∷ l) (s′ ∷ m) e =
+    let told = both (isSame s s′) (allSame l m) e in
+    let head = same-sent s s′ (told .0) in
+    let tail = all-same l m (told .1) in
+    cc
+
+-- ---- what each base passes, and a base that was never set
+abbrev pub everyBase : (Held → Bool) → Link → History → Bool
+everyBase test k [] = test (slaveRecord k [] .base)
+everyBase test k (x ∷ h) = test (slaveRecord k (x ∷ h) .base) && everyBase test k h
+
+pub every-base :
+    (test : Held → Bool) (k : Link) (after : History) (x : Event) (before : History) →
+    everyBase test k (after ++ (x ∷ before)) ≡ true → test (slaveRecord k (x ∷ before) .base) ≡ true
+every-base test k [] x before e = both (test (slaveRecord k (x ∷ before) .base)) (everyBase test k before) e .0
+every-base test k (y ∷ after) x before e =
+    let rest = after ++ (x ∷ before) in
+    every-base test k after x before (both (test (slaveRecord k (y ∷ rest) .base)) (everyBase test k rest) e .1)
+
 abbrev isUnset : Held → Bool
 isUnset Unset = true
 isUnset (Set b) = false
 
 abbrev pub neverSet : Link → History → Bool
-neverSet k [] = isUnset (slaveRecord k [] .base)
-neverSet k (x ∷ h) = isUnset (slaveRecord k (x ∷ h) .base) && neverSet k h
-
-set-unset : (held : Held) (b : TimeBase) → isUnset held ≡ true → held ≡ Set b → ⊥
-set-unset held b e p = false≢true (ap isUnset (sym p) ∙ e)
+neverSet = everyBase isUnset
 
 pub never-set :
     (k : Link) (after : History) (x : Event) (before : History) (b : TimeBase) →
     neverSet k (after ++ (x ∷ before)) ≡ true → slaveRecord k (x ∷ before) .base ≡ Set b → ⊥
-never-set k [] x before b e = set-unset (slaveRecord k (x ∷ before) .base) b (both _ (neverSet k before) e .0)
-never-set k (y ∷ after) x before b e =
-    let rest = after ++ (x ∷ before) in
-    never-set k after x before b (both (isUnset (slaveRecord k (y ∷ rest) .base)) (neverSet k rest) e .1)
+never-set k after x before b e p = false≢true (ap isUnset (sym p) ∙ every-base isUnset k after x before e)

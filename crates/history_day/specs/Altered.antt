@@ -53,11 +53,9 @@ use Rattle.history.specs.Demand.{
   Fair,
 }
 use Rattle.history_day.specs.Met.{PairMet}
-use Rattle.history_day.specs.Settings.{arrives, copyOf, slaveFor, noIds, millis, ms}
+use Rattle.history_day.specs.Settings.{arrives, copyOf, slaveFor, noIds, millis, ms, plainLink, sets}
 use Rattle.history_day.specs.Day.{dayLink}
 use Rattle.history_day.specs.Edges.{
-  edgeWith,
-  sets,
   syncs,
   syncsWithin,
   confirms,
@@ -248,7 +246,7 @@ AnyListsRead =
 
 -- ---- As the link of `followUpEdge`, but E is 500 ms: there the copy of SYNC 0 comes twice that late.
 abbrev pub halfLink : Link
-halfLink = edgeWith 100 500 600 50
+halfLink = plainLink 100 500 600 2000 50
 
 -- ---- A SYNC at 1000.999999999 s, the time set anew, the confirmation 1 ns after the SYNC; the pair arrives.
 abbrev pub setSync : Sent

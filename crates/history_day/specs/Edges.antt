@@ -3,46 +3,21 @@
 -- where the two SYNCs are byte for byte the same. One where a pair's SYNC arrives a nanosecond before the moment plus
 -- L, and the pair is not taken. And some that meet all: one with a time that another slave might hold, one with a
 -- time that is E behind, one with a time that is C ahead. Assumes nothing.
-use Prim.Native.Nat.{ℕ, zero, suc, _+_, _*_}
+use Prim.Native.Nat.{ℕ, zero, suc, _+_}
 use mathlib.Core.List.{List, [], _∷_, _++_}
-use lib.ListN.{replicate, set as put}
 use Rattle.clock.specs.declared.base.TimeBase.{TimeBase}
-use Rattle.frame_check.specs.declared.CheckMode.the-variants.{NotValidated}
-use Rattle.settings.specs.declared.domain_settings.Security.the-variants.{Plain}
-use Rattle.settings.specs.Domain.{asMaster}
-use Rattle.node_call.specs.Calls.{set, cycle}
-use Rattle.history.specs.History.{Link, Event, atMaster, History, Sent}
+use Rattle.history.specs.History.{Link, Event, History, Sent}
 use Rattle.history.specs.Demand.{Copy}
-use Rattle.history_day.specs.Settings.{arrives, confirmsIn, copyOf, slaveFor, absents, noIds, millis, ms}
+use Rattle.history_day.specs.Settings.{arrives, confirmsIn, copyOf, millis, ms, plainLink, sets, syncAfter}
 
--- ---- domain 0, plain frames, J 1, L 2 s, one clock; P, E, F and C in milliseconds
-abbrev pub edgeWith : (p e f c : ℕ) → Link
-edgeWith p e f c =
-    record {
-      master =
-          record {
-            «syncs_per_cycle» = 1;
-            domains = put absents 0 (asMaster (millis p) (millis c) Plain (record { 0 = 0; 1 = 0; 2 = 0 }) noIds);
-          };
-      slave =
-          record {
-            «syncs_per_cycle» = 1;
-            domains = put absents 0 (slaveFor 1 (millis f) (millis 2000) NotValidated noIds);
-          };
-      domain = 0;
-      masterAdds = 0;
-      slaveAdds = 0;
-      e = millis e;
-    }
+-- ---- the links: L 2 s
+abbrev edgeWith : (p e f c : ℕ) → Link
+edgeWith p e f c = plainLink p e f 2000 c
 
--- ---- The domain is set to 1000 s at 1 s. SYNC n is sent at 1 s and n periods of p ms: so many of them from one on.
-abbrev pub sets : Event
-sets = atMaster (set 0 (ms 1000) 1000 0)
-
+-- ---- so many SYNCs, from one on
 abbrev syncsEvery : (p first count : ℕ) → History
 syncsEvery p first zero = []
-syncsEvery p first (suc count) =
-    atMaster (cycle (ms (1000 + p * (first + count))) (replicate 8 0)) ∷ syncsEvery p first count
+syncsEvery p first (suc count) = syncAfter p (first + count) ∷ syncsEvery p first count
 
 abbrev pub syncs : (first count : ℕ) → History
 syncs = syncsEvery 100

@@ -3,4 +3,5 @@ pub mod Met
 pub mod Settings
 pub mod Day
 pub mod Edges
+pub mod Second
 pub mod Altered

@@ -1,5 +1,5 @@
 -- What demand 3 of paper 01 asks of a link and a history, gathered; its first sentence with another condition in
--- place of "exceed", and its last from an earlier reading on. Assumes nothing.
+-- place of "exceed", and its last from an earlier reading on, or for later FUPs. Assumes nothing.
 use Prim.Native.Nat.{ℕ, _+_, _*_, _≤_, _<_}
 use mathlib.Core.Path.{_≡_}
 use mathlib.Core.Bool.{true}
@@ -47,6 +47,14 @@ TakenFrom earlier =
     (k : Link) (h : History) (moment : ℕ) (newer : List Copy) (fup sync : Copy) (older : List Copy) →
     PairMet k h moment newer fup sync older →
     moment + slaveSettings k .«loss_time» ≤ onSlave k (sync .at) + earlier → Taken k moment h fup sync older
+
+-- ---- the last sentence for FUPs that arrive F after their SYNCs, or up to so much later
+abbrev pub TakenUntil : (later : ℕ) → Type 0
+TakenUntil later =
+    (k : Link) (h : History) → Fair k h → (moment : ℕ) (o : Orderly k moment h) →
+    (newer older : List Copy) (fup sync : Copy) → o .copies ≡ newer ++ (fup ∷ sync ∷ older) →
+    isFup (fup .of) ≡ true → spanOf (sync .at) (fup .at) ≤ slaveSettings k .«follow_up_time» + later →
+    moment + slaveSettings k .«loss_time» ≤ onSlave k (sync .at) → Taken k moment h fup sync older
 
 -- ---- the first sentence under a condition that need not be "exceed"
 abbrev pub HeldUnder : (Link → Type 0) → Type 0

@@ -1,16 +1,18 @@
--- Paper 01, "Settings of a node": those of the day and of the edges; a reading in milliseconds, and the calls that they
--- share. Assumes nothing.
-use Prim.Native.Nat.{ℕ, _*_}
+-- Paper 01, "Settings of a node": those of the days and of the edges; a reading in milliseconds, and the calls that
+-- they share. Assumes nothing.
+use Prim.Native.Nat.{ℕ, _+_, _*_}
 use mathlib.Core.List.{List}
-use lib.ListN.{replicate}
+use lib.ListN.{replicate, set as put}
 use Rattle.clock.specs.declared.reading.VirtualLocalTime.{VirtualLocalTime}
 use Rattle.frame.specs.declared.data_ids.DataIds.{DataIds}
 use Rattle.frame_check.specs.declared.CheckMode.{CheckMode}
+use Rattle.frame_check.specs.declared.CheckMode.the-variants.{NotValidated}
 use Rattle.settings.specs.declared.domain_settings.DomainSettings.{DomainSettings}
-use Rattle.settings.specs.Domain.{absentHeld, asSlave}
+use Rattle.settings.specs.declared.domain_settings.Security.the-variants.{Plain}
+use Rattle.settings.specs.Domain.{absentHeld, asSlave, asMaster}
 use Rattle.settings.specs.Node.{places}
-use Rattle.node_call.specs.Calls.{frame, confirm}
-use Rattle.history.specs.History.{Event, atMaster, atSlave}
+use Rattle.node_call.specs.Calls.{frame, set, cycle, confirm}
+use Rattle.history.specs.History.{Link, Event, atMaster, atSlave}
 use Rattle.history.specs.Demand.{Copy}
 
 -- ---- a slave: J, F, L, its check mode, its DataIDs; leaps not checked
@@ -45,3 +47,30 @@ arrives t bytes = atSlave (frame (ms t) bytes)
 
 abbrev pub confirmsIn : (domain t counter : ℕ) → Event
 confirmsIn domain t counter = atMaster (confirm domain (ms t) counter (replicate 8 0))
+
+-- ---- domain 0 alone, plain frames, J 1, one clock; P, E, F, L and C in milliseconds
+abbrev pub plainLink : (p e f l c : ℕ) → Link
+plainLink p e f l c =
+    record {
+      master =
+          record {
+            «syncs_per_cycle» = 1;
+            domains = put absents 0 (asMaster (millis p) (millis c) Plain (record { 0 = 0; 1 = 0; 2 = 0 }) noIds);
+          };
+      slave =
+          record {
+            «syncs_per_cycle» = 1;
+            domains = put absents 0 (slaveFor 1 (millis f) (millis l) NotValidated noIds);
+          };
+      domain = 0;
+      masterAdds = 0;
+      slaveAdds = 0;
+      e = millis e;
+    }
+
+-- ---- The domain is set to 1000 s at 1 s. SYNC n is sent at 1 s and n periods of p ms.
+abbrev pub sets : Event
+sets = atMaster (set 0 (ms 1000) 1000 0)
+
+abbrev pub syncAfter : (p n : ℕ) → Event
+syncAfter p n = atMaster (cycle (ms (1000 + p * n)) (replicate 8 0))

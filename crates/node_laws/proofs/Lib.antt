@@ -22,3 +22,4 @@ pub mod Accepted
 pub mod Demands
 pub mod Cases
 pub mod Witness
+pub mod Caps

@@ -8,3 +8,4 @@ pub mod Refused
 pub mod Apart
 pub mod Back
 pub mod Demands
+pub mod Caps

@@ -1,10 +1,12 @@
 -- `master_follow::follow_up` meets its contract: at each return the arm and the tests that led
 -- there decide the definition's.
 -- Assumes nothing.
+use Prim.Native.Nat.{_≤_, _<_}
 use mathlib.Core.Path.{_≡_}
 use native.Mathlib.Omega.{arith}
 use borrow.Author.Tests.{le-leb, lt-leb, eq-eqb, ne-eqb, not-true, not-false}
 use borrow.Author.Needs.{needs}
+use Rattle.clock.specs.Reading.{spanOf}
 use Rattle.master_follow.proofs.follow_up.Statement.{statement}
 use Rattle.master_follow.proofs.follow_up.Tie as tie
 
@@ -12,6 +14,13 @@ use Rattle.master_follow.proofs.follow_up.Tie as tie
 confirmed :
     (c : tie.Else1) → c .before .before .sending .given .0 .0 ≡ c .before .before .before .before .args .counter
 confirmed c = omega (arith, c .if1 .left)
+
+-- and it is at most C old
+in-time :
+    (c : tie.Else2) → let sync = c .before .before .before .before in
+    let a = sync .before .before .args in
+    spanOf (sync .sending .given .0 .1 .1 .1 .0) (a .t) ≤ a .confirmation-time
+in-time c = omega (arith, rw (c .before .since .ensures) at (c .if2 .left))
 
 enum-told : tie.Need-enum-told
 enum-told c = search needs
@@ -28,11 +37,11 @@ since-requires c κs = search needs
 returns-2 : tie.Need-returns-2
 returns-2 c =
     let same = c .before .before in
-    rw (
-      same .before .before .sending .given .1,
-      eq-eqb _ _ (confirmed same),
-      lt-leb _ _ (rw (c .before .since .ensures) at (c .if2 .taken)),
-    )
+    let sync = same .before .before in
+    let a = sync .before .before .args in
+    let late : a .confirmation-time < spanOf (sync .sending .given .0 .1 .1 .1 .0) (a .t) =
+    omega (arith, rw (c .before .since .ensures) at (c .if2 .taken)) in
+    rw (sync .sending .given .1, eq-eqb _ _ (confirmed same), lt-leb _ _ late)
 
 returns-3 : tie.Need-returns-3
 returns-3 c =
@@ -42,7 +51,7 @@ returns-3 c =
     rw (
       same .before .before .sending .given .1,
       eq-eqb _ _ (confirmed same),
-      le-leb _ _ (rw (at .since .ensures) at (young .if2 .left)),
+      le-leb _ _ (in-time young),
       not-true (same .before .before .before .before .args .room) (c .if3 .taken),
     )
 
@@ -67,7 +76,7 @@ returns-5 c =
     rw (
       same .before .before .sending .given .1,
       eq-eqb _ _ (confirmed same),
-      le-leb _ _ (rw (at .since .ensures) at (young .if2 .left)),
+      le-leb _ _ (in-time young),
       not-false (same .before .before .before .before .args .room) (roomy .if3 .left),
     )
     (c .follow-from .ensures)
