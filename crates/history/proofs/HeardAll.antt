@@ -45,7 +45,7 @@ sync-good Secured Validated master slave r i c user0 user seconds =
 sync-good Secured NotValidated master slave r i c user0 user seconds = absurd r
 sync-good Secured Ignored master slave r i c user0 user seconds = refl
 sync-good Secured Optional master slave r i c user0 user seconds =
-    let same : master ≡ slave = r in
+    let same : master ≡ slave = cc in
     rw (← same) (good-back Optional master (syncAs Secured i c user0 user seconds))
 
 abbrev fupAs : Security → (i c ovs user nanoseconds : ℕ) → Bool → Frame
@@ -71,7 +71,7 @@ fup-good Secured Validated master slave r i c ovs user nanoseconds sgw =
 fup-good Secured NotValidated master slave r i c ovs user nanoseconds sgw = absurd r
 fup-good Secured Ignored master slave r i c ovs user nanoseconds sgw = refl
 fup-good Secured Optional master slave r i c ovs user nanoseconds sgw =
-    let same : master ≡ slave = r in
+    let same : master ≡ slave = cc in
     rw (← same) (good-back Optional master (fupAs Secured i c ovs user nanoseconds sgw))
 
 -- ---- read and good, so heard

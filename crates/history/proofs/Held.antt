@@ -10,6 +10,7 @@ use mathlib.Core.List.{List, [], _∷_, _++_, append-assoc}
 use native.Mathlib.Omega.{arith}
 use Rattle.promise.proofs.Tests.{either}
 use Rattle.clock.specs.declared.reading.VirtualLocalTime.{VirtualLocalTime}
+use Rattle.clock.specs.declared.time.GlobalTime.{GlobalTime}
 use Rattle.clock.specs.declared.base.Held.{Held}
 use Rattle.clock.specs.declared.base.Held.the-variants.{Unset, Set}
 use Rattle.clock.specs.Reading.{spanOf}
@@ -154,6 +155,10 @@ module _ (k : Link) (x : Event) (h : History) (le : now k h ≤ momentOf k x) wh
   kept-later : (d : Domain) → Kept k h d → Kept k (x ∷ h) d
   kept-later d g = record { pair = pair-later (d .pairing) (g .pair); base = base-later (d .base) (g .base) }
 
+-- ---- times by their two numbers
+same-time : (g g′ : GlobalTime) → g .0 ≡ g′ .0 → g .1 ≡ g′ .1 → g ≡ g′
+same-time g g′ seconds nanoseconds = λ j. record { 0 = seconds j; 1 = nanoseconds j }
+
 -- ---- the heart: the SYNC of the open pair and the SYNC of a FUP with its counter are one
 
 module _ (k : Link) (exceed : Exceed k) (h : History) (row : RowOf (masterSettings k) (k .domain) (sentIn k h)) where
@@ -231,7 +236,7 @@ module _ (k : Link) (exceed : Exceed k) (h : History) (row : RowOf (masterSettin
         let fs = subst (λ (c : ℕ). FupSent m i c (its .y) (copy .of)) same (its .pair .fup) in
         let one : q .of ≡ its .y =
         one-sync k exceed h row p q (copy .of) (its .y) t sy (its .there) fs (omega (arith, sent, le))
-        (copy .copied .soon) (omega (arith, q .past, le)) span in
+        (omega (arith, copy .copied .soon)) (omega (arith, q .past, le)) span in
         let whole = whole-time (its .y .time) (its .y .at) (copy .of .at) (sy .seconds) in
         let seconds : p .seconds ≡ its .y .time .0 = sym (q .seconds) ∙ ap (λ (z : Sent). z .time .0) one in
         record {
@@ -242,7 +247,9 @@ module _ (k : Link) (exceed : Exceed k) (h : History) (row : RowOf (masterSettin
           sent = its .here;
           is-sync = sync-bytes m i (p .counter) (its .y) sy .is;
           is-fup = fup-bytes m i (p .counter) (its .y) (copy .of) fs .is;
-          time = (λ j. record { 0 = seconds j + f .ovs; 1 = f .nanoseconds }) ∙ whole;
+          time =
+              same-time _ _ (omega (arith, seconds, ap (λ (g : GlobalTime). g .0) whole))
+              (omega (arith, ap (λ (g : GlobalTime). g .1) whole));
           after = x ∷ q .after;
           before = q .before;
           copy =
@@ -252,7 +259,7 @@ module _ (k : Link) (exceed : Exceed k) (h : History) (row : RowOf (masterSettin
               record {
                 sent = subst (λ (z : Sent). In z (sentIn k (q .before))) one (q .copied);
                 same = refl;
-                soon = subst (λ (z : Sent). onSlave k (p .at) ≤ onMaster k (z .at) + k .e) one (q .soon);
+                soon = omega (arith, q .soon, ap (λ (z : Sent). z .at .0) one);
               };
         }
 

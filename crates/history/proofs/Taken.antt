@@ -78,6 +78,8 @@ module _ (k : Link) (l : Linked k) (moment : ℕ) (h : History) where
       (f .of .bytes) (fup v) (here .fine) (here .heard) reads in
       let limit =
       ap (λ (s : DomainSettings). s .«follow_up_time») (slave-settings k l (here .before) (here .fine .calls .0)) in
+      let none =
+      update-taken (d .settings .«future_threshold») (d .settings .«past_threshold») (d .base) (newBase open-pair v) in
       let taken =
       taken-as d open-pair (f .at) v
       (record { held = is-open; young = omega (arith, limit, in-time); same = refl; in-range = omega arith })
@@ -90,7 +92,7 @@ module _ (k : Link) (l : Linked k) (moment : ℕ) (h : History) where
         number =
             step .1
             ∙ ap (λ (s : FrameStep). numbered (frameNumber (s .answer))) taken
-            ∙ ap numbered (update-taken _ _ (d .base) (newBase open-pair v));
+            ∙ ap numbered (omega (arith, none));
         base =
             ap (λ (d : Domain). d .base) (step .0)
             ∙ ap (λ (s : FrameStep). s .domain .base) taken
@@ -108,5 +110,5 @@ each-pair-taken k l h calls fall range moment o newer older f y split is-fup in-
     let before = row-older k (r .rest) (f ∷ []) (y ∷ older) (r .row) in
     let p = fup-here m (k .domain) (r .row .latest) (f .of) (y .of) _ (r .row .row) is-fup in
     closed k l moment h f y older here p
-    (opened k l moment h (r .rest) f y older here before (p .counter) (p .sync) late)
+    (opened k l moment h (r .rest) f y older here before (p .counter) (p .sync) (omega (arith, late)))
     in-time

@@ -3,3 +3,4 @@ pub mod Tests
 pub mod Day
 pub mod Edges
 pub mod Second
+pub mod Altered

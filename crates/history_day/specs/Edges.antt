@@ -19,17 +19,17 @@ abbrev syncsEvery : (p first count : ℕ) → History
 syncsEvery p first zero = []
 syncsEvery p first (suc count) = syncAfter p (first + count) ∷ syncsEvery p first count
 
-abbrev syncs : (first count : ℕ) → History
+abbrev pub syncs : (first count : ℕ) → History
 syncs = syncsEvery 100
 
-abbrev syncsWithin : (first count : ℕ) → History
+abbrev pub syncsWithin : (first count : ℕ) → History
 syncsWithin = syncsEvery 10
 
-abbrev confirms : (t counter : ℕ) → Event
+abbrev pub confirms : (t counter : ℕ) → Event
 confirms t counter = confirmsIn 0 t counter
 
 -- ---- SYNC 0, of 1000.0 s, and SYNC 16, of 1001.6 s
-abbrev sync0 : List ℕ
+abbrev pub sync0 : List ℕ
 sync0 = 0x10 ∷ 0x00 ∷ 0x00 ∷ 0x00 ∷ 0x00 ∷ 0x00 ∷ 0x03 ∷ 0xE8 ∷ []
 
 abbrev sync16 : List ℕ

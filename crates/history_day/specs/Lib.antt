@@ -4,3 +4,4 @@ pub mod Settings
 pub mod Day
 pub mod Edges
 pub mod Second
+pub mod Altered
