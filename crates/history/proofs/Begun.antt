@@ -6,6 +6,8 @@ use mathlib.Core.Path.{_≡_, ap, _∙_}
 use mathlib.Core.List.{List, [], _∷_}
 use native.Mathlib.Omega.{arith}
 use lib.ListN.{length, getD}
+use borrow.Author.Tests.{eqb-true}
+use Rattle.promise.proofs.Tests.{both}
 use Rattle.settings.specs.Node.{places}
 use Rattle.settings.specs.declared.domain_settings.DomainSettings.{DomainSettings}
 use Rattle.settings.specs.Domain.{absentHeld}
@@ -28,6 +30,7 @@ fresh-at number (x ∷ rest) (suc at) i h e = fresh-at (number + 1) rest at i (o
 pub fresh-record :
     (s : NodeSettings) (i : ℕ) → IsSettings s → judgedOf s ≡ Good → i < places →
     recordAt (newOf s .node .domains) i ≡ freshOf i (getD (s .domains) i absentHeld)
-fresh-record s i sixteen good h =
+fresh-record s i is good h =
+    let sixteen : length (s .domains) ≡ places = eqb-true _ _ (both _ _ is .0) in
     ap (λ (v : Verdict). recordAt (newAs v s .node .domains) i) good
     ∙ fresh-at 0 (s .domains) i i (omega arith) (omega arith)

@@ -21,8 +21,9 @@ use native.Mathlib.Nat.{add-mod-mod, add-mod-right, mod-eq-of-lt}
 use lib.Dec.{leb, eqb}
 use lib.IntN.{ℤ, pos}
 use lib.ListN.{length, getD}
-use borrow.Author.Tests.{leb-true}
+use borrow.Author.Tests.{leb-true, eqb-true}
 use Rattle.promise.proofs.Tests.{either, either-told, both}
+use Rattle.promise.proofs.Lists.{getD-any}
 use Rattle.clock.specs.declared.reading.VirtualLocalTime.{VirtualLocalTime}
 use Rattle.clock.specs.declared.time.GlobalTime.{GlobalTime}
 use Rattle.clock.specs.declared.base.TimeBase.{TimeBase}
@@ -124,6 +125,7 @@ use Rattle.node_laws.specs.Caps.{
   Follows,
   MovedExact,
   Moves,
+  Listed,
   CapsExact,
 }
 use Rattle.node_laws.proofs.Bounds.{base-within, time-exact-here}
@@ -406,6 +408,11 @@ module _ (i : ℕ) (kept : VirtualLocalTime) (d : Domain) (g : RecordGood i kept
 not-before : (n : Node) (t : VirtualLocalTime) → Passes n t → n .kept .0 ≤ t .0
 not-before n t passes = let range = both (isReading t) _ passes in omega (arith, leb-true)
 
+listed : (list : List ℕ) → eqb (length list) counters ≡ true → Listed list
+listed list e counter other h =
+    let sixteen : length list ≡ counters = eqb-true _ _ e in
+    rw (mod-eq-of-lt h) (getD-any list counter 0 other (omega arith))
+
 pub caps-exact : (n : Node) → Reachable n → CapsExact n
 caps-exact n r =
     let good = reachable-good n r in
@@ -443,6 +450,11 @@ caps-exact n r =
       round = round-exact n r;
       sixteen = good .sixteen;
       place = λ bytes are. mod-eq-of-lt (omega (arith, byte-below bytes 2 are));
+      ids =
+          λ i h.
+          let ids = recordAt (n .domains) i .settings .ids in
+          let are = both _ _ (good .records i h .ids) in
+          (listed (ids .sync) (are .0), listed (ids .fup) (are .1));
     }
 
 -- ---- the hypotheses can be met

@@ -6,8 +6,8 @@ use mathlib.Core.Path.{_≡_, refl, _∙_, ap}
 use mathlib.Core.Bool.{true, false, _&&_}
 use mathlib.Core.List.{List, [], _∷_}
 use native.Mathlib.Omega.{arith}
-use borrow.Author.Tests.{leb-true}
-use lib.Dec.{leb}
+use borrow.Author.Tests.{leb-true, eqb-true}
+use lib.Dec.{leb, eqb}
 use lib.ListN.{length, replicate}
 use Rattle.settings.specs.Node.{places}
 use Rattle.promise.proofs.Tests.{either-told, both}
@@ -31,7 +31,7 @@ use Rattle.domain.specs.declared.Leap.the-variants.{None}
 use Rattle.domain.specs.Fresh.{freshOf}
 use Rattle.domain.specs.Records.{recordAt}
 use Rattle.node.specs.New.{recordsOf, freshNode, newAs, newOf}
-use Rattle.node_laws.specs.Reachable.{IsSettings}
+use Rattle.node_laws.specs.Reachable.{areIds, allIds, IsSettings}
 use Rattle.node_laws.specs.Good.{RoleGood, RecordGood, Good}
 
 -- ---- a fresh record, by what is held of its settings
@@ -76,14 +76,20 @@ fresh-role Master s number kept =
       stored = (refl, refl, refl);
     }
 
+ids-held : (r : Role) (s : DomainSettings) → areIds (s .ids) ≡ true → areIds (heldAs r s .ids) ≡ true
+ids-held Absent s e = refl
+ids-held Slave s e = e
+ids-held Master s e = e
+
 fresh-good :
     (number i : ℕ) (s : DomainSettings) (kept : VirtualLocalTime) → number ≡ i → isGood s ≡ true →
-    RecordGood i kept (freshOf number s)
-fresh-good number i s kept e good =
+    areIds (s .ids) ≡ true → RecordGood i kept (freshOf number s)
+fresh-good number i s kept e good are =
     record {
       number = e;
       settings = held-good s ∙ good;
       settings-held = held-twice s;
+      ids = ids-held (s .role) s are;
       updates = omega arith;
       role = fresh-role (s .role) s number kept;
     }
@@ -95,27 +101,31 @@ records-length number [] = refl
 records-length number (s ∷ rest) = ap suc (records-length (number + 1) rest)
 
 records-good :
-    (number : ℕ) (l : List DomainSettings) (kept : VirtualLocalTime) → allGood l ≡ true → (at i : ℕ) →
-    at < length l → number + at ≡ i → RecordGood i kept (recordAt (recordsOf number l) at)
-records-good number [] kept good at i h e = absurd (omega (arith, h))
-records-good number (s ∷ rest) kept good zero i h e =
+    (number : ℕ) (l : List DomainSettings) (kept : VirtualLocalTime) → allGood l ≡ true → allIds l ≡ true →
+    (at i : ℕ) → at < length l → number + at ≡ i → RecordGood i kept (recordAt (recordsOf number l) at)
+records-good number [] kept good are at i h e = absurd (omega (arith, h))
+records-good number (s ∷ rest) kept good are zero i h e =
     fresh-good number i s kept (omega arith) (both (isGood s) (allGood rest) good .0)
-records-good number (s ∷ rest) kept good (suc at) i h e =
-    records-good (number + 1) rest kept (both (isGood s) (allGood rest) good .1) at i (omega (arith, h)) (omega arith)
+    (both (areIds (s .ids)) (allIds rest) are .0)
+records-good number (s ∷ rest) kept good are (suc at) i h e =
+    records-good (number + 1) rest kept (both (isGood s) (allGood rest) good .1)
+    (both (areIds (s .ids)) (allIds rest) are .1) at i (omega (arith, h)) (omega arith)
 
 -- ---- the fresh node
 
 node-good :
-    (syncs : ℕ) (l : List DomainSettings) → within 1 16 syncs ≡ true → allGood l ≡ true → length l ≡ 16 →
-    Good (freshNode syncs l)
-node-good syncs l w good n =
+    (syncs : ℕ) (l : List DomainSettings) → within 1 16 syncs ≡ true → allGood l ≡ true →
+    (eqb (length l) places && allIds l) ≡ true → Good (freshNode syncs l)
+node-good syncs l w good is =
     let h = both (leb 1 syncs) (leb syncs 16) w in
+    let told = both (eqb (length l) places) (allIds l) is in
+    let sixteen : length l ≡ places = eqb-true _ _ (told .0) in
     record {
-      sixteen = records-length 0 l ∙ n;
+      sixteen = records-length 0 l ∙ sixteen;
       kept = omega arith;
       syncs = (leb-true _ _ (h .0), leb-true _ _ (h .1));
       round = omega arith;
-      records = λ i lt. records-good 0 l _ good i i (omega arith) (omega arith);
+      records = λ i lt. records-good 0 l _ good (told .1) i i (omega arith) (omega arith);
     }
 
 pub new-good : (s : NodeSettings) → IsSettings s → Good (newOf s .node)

@@ -60,6 +60,7 @@ later i kept kept′ d le g =
       number = g .number;
       settings = g .settings;
       settings-held = g .settings-held;
+      ids = g .ids;
       updates = g .updates;
       role = role-later kept kept′ le (d .settings .role) d (g .role);
     }

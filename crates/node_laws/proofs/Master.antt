@@ -81,6 +81,7 @@ module _ (i : ℕ) (t : VirtualLocalTime) (s ns : ℕ) (d : Domain) (fits : s < 
         number = g .number;
         settings = g .settings;
         settings-held = g .settings-held;
+        ids = g .ids;
         updates = update-bound (d .updates);
         role = subst (λ (r : Role). RoleGood r t set-one) (sym e) set-master;
       }
@@ -146,6 +147,7 @@ module _ (i : ℕ) (t : VirtualLocalTime) (d : Domain) (e : d .settings .role �
         number = g .number;
         settings = g .settings;
         settings-held = g .settings-held;
+        ids = g .ids;
         updates = g .updates;
         role =
             subst (λ (r : Role). RoleGood r t (sending-as d s next)) (sym e)

@@ -219,6 +219,7 @@ module _ (i : ℕ) (kept t : VirtualLocalTime) (d : Domain) (g : RecordGood i ke
           number = g .number;
           settings = g .settings;
           settings-held = g .settings-held;
+          ids = g .ids;
           updates = g .updates;
           role = as-role (withPair d t s) (paired d t s c as-slave);
         })
@@ -232,6 +233,7 @@ module _ (i : ℕ) (kept t : VirtualLocalTime) (d : Domain) (g : RecordGood i ke
           number = g .number;
           settings = g .settings;
           settings-held = g .settings-held;
+          ids = g .ids;
           updates = omega arith;
           role = as-role (updatedOf d p f leap) (updated d t p f leap j o as-slave);
         }

@@ -6,7 +6,7 @@ use mathlib.Core.Path.{_≡_}
 use mathlib.Core.Bool.{true}
 use mathlib.Core.List.{List}
 use lib.IntN.{ℤ, subℕ}
-use lib.ListN.{length}
+use lib.ListN.{length, getD}
 use Rattle.clock.specs.declared.reading.VirtualLocalTime.{VirtualLocalTime}
 use Rattle.clock.specs.declared.time.GlobalTime.{GlobalTime}
 use Rattle.clock.specs.declared.base.TimeBase.{TimeBase}
@@ -19,6 +19,7 @@ use Rattle.frame.specs.declared.values.Sync.{Sync}
 use Rattle.frame.specs.declared.values.Fup.{Fup}
 use Rattle.frame.specs.declared.values.Frame.the-variants.{Sync as sync, Fup as fup}
 use Rattle.frame.specs.ByteTwo.{counters}
+use Rattle.frame.specs.Ids.{idAt}
 use Rattle.frame_read.specs.declared.Read.the-variants.{Values}
 use Rattle.frame_read.specs.Read.{readOf, namedDomain}
 use Rattle.frame_laws.specs.RoundTrip.{AreBytes}
@@ -103,9 +104,13 @@ pub record Moves (before after : Held) (moved : ℤ) : Type 0 where
   pub is : after ≡ Set new
   pub exact : MovedExact old new moved
 
+-- ---- "the DataID that the list for this kind of frame holds at the counter": it holds one, whatever stands in for none
+abbrev pub Listed : List ℕ → Type 0
+Listed list = (counter other : ℕ) → counter < counters → idAt list counter ≡ getD list counter other
+
 -- ---- Each cap of a node's calls is the identity: spans; the jump of a SYNC as it is read; D where a FUP joins its
 -- pair, and as it is answered; the time shown, the time of a SYNC, the time of a FUP; the counter sent next; the place
--- at which the next round starts; the records, of which there are 16; the place that a frame names.
+-- at which the next round starts; the records, of which there are 16; the place that a frame names; a DataID.
 pub record CapsExact (n : Node) : Type 0 where
   pub spans :
       (i : ℕ) → i < places → (t at : VirtualLocalTime) → Passes n t → HeldAt (recordAt (n .domains) i) at →
@@ -139,3 +144,6 @@ pub record CapsExact (n : Node) : Type 0 where
   pub round : n .round % places ≡ n .round
   pub sixteen : length (n .domains) ≡ places
   pub place : (bytes : List ℕ) → AreBytes bytes → addressedBy bytes ≡ namedDomain bytes
+  pub ids :
+      (i : ℕ) → i < places →
+      Listed (recordAt (n .domains) i .settings .ids .sync) × Listed (recordAt (n .domains) i .settings .ids .fup)

@@ -25,6 +25,7 @@ use Rattle.domain.specs.declared.Leap.the-variants.{None}
 use Rattle.domain.specs.Fresh.{freshOf}
 use Rattle.domain.specs.Records.{recordAt}
 use Rattle.node.specs.declared.Node.{Node}
+use Rattle.node_laws.specs.Reachable.{areIds}
 
 -- ---- a held time: seconds at most so many, nanoseconds in range, its reading at most the kept one
 abbrev pub HeldWithin : (most : ℕ) (kept : VirtualLocalTime) → Held → Type 0
@@ -94,6 +95,7 @@ pub record RecordGood (i : ℕ) (kept : VirtualLocalTime) (d : Domain) : Type 0 
   pub number : d .number ≡ i
   pub settings : isGood (d .settings) ≡ true
   pub settings-held : heldOf (d .settings) ≡ d .settings
+  pub ids : areIds (d .settings .ids) ≡ true
   pub updates : d .updates < 256
   pub role : RoleGood (d .settings .role) kept d
 
