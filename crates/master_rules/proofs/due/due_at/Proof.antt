@@ -1,11 +1,21 @@
 -- `master_rules::due::due_at` meets its contract: at each return the tests that led there decide the
 -- conjunction.
 -- Assumes nothing.
+use Prim.Native.Nat.{_≤_, _<_}
 use mathlib.Core.Path.{sym, _∙_}
+use native.Mathlib.Omega.{arith}
 use borrow.Author.Tests.{le-leb, lt-leb, not-true, not-false}
 use borrow.Author.Needs.{needs}
+use Rattle.clock.specs.Time.{mostSet}
+use Rattle.clock.specs.Base.{timeAt}
 use Rattle.master_rules.proofs.due.due_at.Statement.{statement}
 use Rattle.master_rules.proofs.due.due_at.Tie as tie
+
+-- the seconds at t are those of 32 bits
+early :
+    (c : tie.Else1) → let base = c .before .before .before .before in
+    timeAt (base .base .given .0 .0) (base .before .before .args .t) .0 ≤ mostSet
+early c = omega (arith, rw (c .before .before .time-at .ensures) at (c .if1 .left))
 
 enum-known-base : tie.Need-enum-known-base
 enum-known-base c = search needs
@@ -22,7 +32,10 @@ time-at-requires c κs = search needs
 returns-2 : tie.Need-returns-2
 returns-2 c =
     let at = c .before .before in
-    rw (at .before .before .base .given .1, lt-leb _ _ (rw (at .time-at .ensures) at (c .if1 .taken)))
+    let base = at .before .before in
+    let late : mostSet < timeAt (base .base .given .0 .0) (base .before .before .args .t) .0 =
+    omega (arith, rw (at .time-at .ensures) at (c .if1 .taken)) in
+    rw (base .base .given .1, lt-leb _ _ late)
 
 is-master-requires : tie.Need-is-master-requires
 is-master-requires c κs = search needs
@@ -33,7 +46,7 @@ returns-3 c =
     let at = small .before .before in
     rw (
       at .before .before .base .given .1,
-      le-leb _ _ (rw (at .time-at .ensures) at (small .if1 .left)),
+      le-leb _ _ (early small),
       sym (c .before .is-master .ensures) ∙ not-true _ (c .if2 .taken),
     )
 
@@ -47,7 +60,7 @@ returns-4 c =
     let at = small .before .before in
     rw (
       at .before .before .base .given .1,
-      le-leb _ _ (rw (at .time-at .ensures) at (small .if1 .left)),
+      le-leb _ _ (early small),
       sym (role .before .is-master .ensures) ∙ not-false _ (role .if2 .left),
       sym (c .before .has-waited .ensures) ∙ not-true _ (c .if3 .taken),
     )
@@ -63,7 +76,7 @@ returns-5 c =
     rw (
       at .before .before .base .given .1,
       at .time-at .ensures,
-      le-leb _ _ (rw (at .time-at .ensures) at (small .if1 .left)),
+      le-leb _ _ (early small),
       sym (role .before .is-master .ensures) ∙ not-false _ (role .if2 .left),
       sym (c .before .before .has-waited .ensures) ∙ not-false _ (c .before .if3 .left),
     )

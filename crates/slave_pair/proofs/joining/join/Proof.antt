@@ -1,8 +1,11 @@
 -- `slave_pair::joining::join` meets its contract: at each return the tests that led there decide the
 -- definition's.
 -- Assumes nothing.
+use Prim.Native.Nat.{_≤_, _<_}
+use native.Mathlib.Omega.{arith}
 use borrow.Author.Tests.{le-ltb, lt-ltb, le-leb, lt-leb, eq-eqb, ne-eqb}
 use borrow.Author.Needs.{needs}
+use Rattle.clock.specs.Time.{mostNanoseconds}
 use Rattle.slave_pair.proofs.joining.join.Statement.{statement}
 use Rattle.slave_pair.proofs.joining.join.Tie as tie
 
@@ -38,11 +41,13 @@ returns-4 c =
     let same = c .before .before in
     let young = same .before .before .before in
     let at = young .before in
+    let pair = at .before .before .before in
+    let above : mostNanoseconds < pair .before .before .args .fup .nanoseconds = omega (arith, c .if3 .taken) in
     rw (
-      at .before .before .before .pairing .given .1,
+      pair .pairing .given .1,
       le-ltb _ _ (rw (at .since .ensures) at (young .if1 .left)),
       eq-eqb _ _ (same .if2 .left),
-      lt-leb _ _ (c .if3 .taken),
+      lt-leb _ _ above,
     )
 
 returns-5 : tie.Need-returns-5
@@ -50,11 +55,13 @@ returns-5 c =
     let same = c .before .before in
     let young = same .before .before .before in
     let at = young .before in
+    let pair = at .before .before .before in
+    let within : pair .before .before .args .fup .nanoseconds ≤ mostNanoseconds = omega (arith, c .if3 .left) in
     rw (
-      at .before .before .before .pairing .given .1,
+      pair .pairing .given .1,
       le-ltb _ _ (rw (at .since .ensures) at (young .if1 .left)),
       eq-eqb _ _ (same .if2 .left),
-      le-leb _ _ (c .if3 .left),
+      le-leb _ _ within,
     )
 
 pub join-spec : {M : Type 1} → statement M
