@@ -1,2 +1,3 @@
 -- The definitions of `master_follow`.
+pub mod Over
 pub mod Follow

@@ -1,10 +1,12 @@
 // The FUP of an open SYNC (paper 01, "A master's domain").
-use clock::GlobalTime;
+mod over;
+
 use clock::VirtualLocalTime;
 use domain::Sending;
+use over::carried_over;
 use refusal::Refusal;
 ghost use mathlib.Core.Path.{_≡_};
-ghost use Rattle.master_follow.specs.Follow.{followFrom, followOf};
+ghost use Rattle.master_follow.specs.Follow.{followOf};
 
 // What a confirmation finds: the time of its FUP and when its SYNC was sent, or the number by which it
 // is refused.
@@ -32,36 +34,30 @@ pub fn follow_up(
         Sending::Never => Follow::Refused(Refusal::NoOpenSync),
         Sending::Open {
             counter: sent,
-            seconds,
+            seconds: _,
             nanoseconds,
             at,
         } => {
             if sent != counter {
                 return Follow::Refused(Refusal::NoOpenSync);
             }
-            if (confirmation_time as u64) < t.since(at) {
+            let span = t.since(at);
+            if (confirmation_time as u64) < span {
                 return Follow::Refused(Refusal::NoOpenSync);
             }
             if !room {
                 return Follow::Refused(Refusal::NoRoom);
             }
-            follow_from(GlobalTime(seconds as u64, nanoseconds), at, t)
+            let over = carried_over(nanoseconds, span as u32);
+            if 3 < over.seconds {
+                return Follow::Refused(Refusal::Ovs);
+            }
+            Follow::With {
+                ovs: over.seconds,
+                nanoseconds: over.nanoseconds,
+                sent_at: at,
+            }
         }
         Sending::Confirmed(_) => Follow::Refused(Refusal::NoOpenSync),
-    }
-}
-
-fn follow_from(time: GlobalTime, at: VirtualLocalTime, t: VirtualLocalTime) -> Follow
-    ensures { λ r. ⌜ r ≡ followFrom time at t ⌝ }
-{
-    let whole = time.advance(t.since(at));
-    let ovs = whole.0 - time.0;
-    if 3 < ovs {
-        return Follow::Refused(Refusal::Ovs);
-    }
-    Follow::With {
-        ovs: ovs as u8,
-        nanoseconds: whole.1,
-        sent_at: at,
     }
 }

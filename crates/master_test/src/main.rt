@@ -27,4 +27,5 @@ fn main() {
     strange::earlier();
     strange::next_counter();
     strange::updates();
+    strange::nanoseconds();
 }

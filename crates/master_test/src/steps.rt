@@ -3,8 +3,11 @@ use crate::inputs;
 use crate::record;
 use clock::VirtualLocalTime;
 use domain::Domain;
+use domain::Sending;
 use master_confirm::ConfirmAnswer;
 use master_confirm::confirm;
+use master_follow::Follow;
+use master_follow::follow_up;
 use master_send::SendAnswer;
 use master_send::is_due;
 use master_send::send;
@@ -78,4 +81,32 @@ pub fn confirmed(d: Domain, t: u64, counter: u8) -> Domain {
     let after = step.domain;
     record::shown(after);
     after
+}
+
+// ---- a rule by itself
+
+// What the confirmation finds of a SYNC of counter 0 and second 5 that was sent at reading 0 with these nanoseconds.
+pub fn followed(confirmation_time: u32, nanoseconds: u32, t: u64) {
+    line::word(b"follow C");
+    line::number(confirmation_time as u64);
+    line::time(5, nanoseconds);
+    line::reading(t);
+    let sending = Sending::Open {
+        counter: 0,
+        seconds: 5,
+        nanoseconds,
+        at: VirtualLocalTime(0),
+    };
+    match follow_up(confirmation_time, sending, VirtualLocalTime(t), 0, true) {
+        Follow::With {
+            ovs,
+            nanoseconds: rest,
+            sent_at: _,
+        } => {
+            line::word(b":");
+            line::time(ovs as u64, rest);
+        }
+        Follow::Refused(refusal) => record::refused(refusal),
+    }
+    line::word(b"\n");
 }

@@ -40,3 +40,11 @@ pub fn updates() {
     d = steps::set(d, 0, 5, 0);
     d = steps::set(d, 1, 6, 0);
 }
+
+// An open SYNC with nanoseconds of any size: up to 8 s come over, and above 3 is 13.
+pub fn nanoseconds() {
+    steps::followed(4_294_967_295, 3_999_999_999, 0);
+    steps::followed(4_294_967_295, 4_000_000_000, 0);
+    steps::followed(4_294_967_295, 4_294_967_295, 4_294_967_295);
+    steps::followed(10, 0, 4_294_967_296);
+}
