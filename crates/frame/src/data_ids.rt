@@ -18,6 +18,6 @@ impl DataIds {
 pub fn id_at(list: [u8; DataIds::COUNTERS], counter: u8) -> u8
     ensures { λ r. ⌜ r ≡ idAt list counter ⌝ }
 {
-    let place = (counter as usize) % DataIds::COUNTERS;
+    let place = (counter % COUNTERS) as usize;
     list[place]
 }

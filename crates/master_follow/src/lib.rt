@@ -41,6 +41,7 @@ pub fn follow_up(
             if sent != counter {
                 return Follow::Refused(Refusal::NoOpenSync);
             }
+            // the age is tested whole: one that is at most C fits 32 bits
             let span = t.since(at);
             if (confirmation_time as u64) < span {
                 return Follow::Refused(Refusal::NoOpenSync);

@@ -3,6 +3,7 @@ use crate::Node;
 use call_confirm::confirm_call;
 use clock::VirtualLocalTime;
 use master_confirm::ConfirmAnswer;
+use round::turns::PLACES;
 ghost use mathlib.Core.Path.{_≡_};
 ghost use Rattle.node.specs.Confirm.{NodeConfirmedIn};
 
@@ -21,7 +22,7 @@ pub fn on_confirmation(
 ) -> NodeConfirm
     ensures { λ r. ⌜ NodeConfirmedIn node domain t counter (now (out .entry)) r (now (out .exit)) ⌝ }
 {
-    let at = (domain as usize) % Node::DOMAINS;
+    let at = (domain % PLACES) as usize;
     let kept = node.kept;
     let record = node.domains[at];
     let call = confirm_call(record, kept, domain, t, counter, out);

@@ -3,6 +3,7 @@ use crate::Node;
 use call_frame::frame_call;
 use clock::VirtualLocalTime;
 use frame_read::named_domain;
+use round::turns::PLACES;
 use slave_answer::FrameAnswer;
 ghost use mathlib.Core.Path.{_≡_};
 ghost use Rattle.node.specs.Frame.{nodeFrameOf};
@@ -16,7 +17,7 @@ pub struct NodeFrame {
 pub fn on_frame(node: Node, t: VirtualLocalTime, bytes: &[u8]) -> NodeFrame
     ensures { λ r. ⌜ r ≡ nodeFrameOf node t (now (bytes .entry)) ⌝ }
 {
-    let at = (named_domain(bytes) as usize) % Node::DOMAINS;
+    let at = (named_domain(bytes) % PLACES) as usize;
     let kept = node.kept;
     let record = node.domains[at];
     let call = frame_call(record, kept, t, bytes);

@@ -3,6 +3,7 @@ use crate::Node;
 use call_read::ReadAnswer;
 use call_read::read_call;
 use clock::VirtualLocalTime;
+use round::turns::PLACES;
 ghost use mathlib.Core.Path.{_≡_};
 ghost use Rattle.node.specs.Read.{nodeReadOf};
 
@@ -10,7 +11,7 @@ ghost use Rattle.node.specs.Read.{nodeReadOf};
 pub fn on_read(node: Node, domain: u8, t: VirtualLocalTime) -> ReadAnswer
     ensures { λ r. ⌜ r ≡ nodeReadOf node domain t ⌝ }
 {
-    let at = (domain as usize) % Node::DOMAINS;
+    let at = (domain % PLACES) as usize;
     let kept = node.kept;
     let record = node.domains[at];
     read_call(record, kept, domain, t)

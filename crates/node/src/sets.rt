@@ -3,6 +3,7 @@ use crate::Node;
 use call_set::set_call;
 use clock::VirtualLocalTime;
 use master_set::SetAnswer;
+use round::turns::PLACES;
 ghost use mathlib.Core.Path.{_≡_};
 ghost use Rattle.node.specs.Set.{nodeSetOf};
 
@@ -21,7 +22,7 @@ pub fn on_set(
 ) -> NodeSet
     ensures { λ r. ⌜ r ≡ nodeSetOf node domain t seconds nanoseconds ⌝ }
 {
-    let at = (domain as usize) % Node::DOMAINS;
+    let at = (domain % PLACES) as usize;
     let kept = node.kept;
     let record = node.domains[at];
     let call = set_call(record, kept, domain, t, seconds, nanoseconds);

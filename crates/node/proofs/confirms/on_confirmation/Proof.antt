@@ -15,6 +15,9 @@ use Rattle.node.proofs.Sixteen.{looked-up}
 use Rattle.node.proofs.confirms.on_confirmation.Statement.{statement}
 use Rattle.node.proofs.confirms.on_confirmation.Tie as tie
 
+cast-at : tie.Need-cast-at
+cast-at c = search needs
+
 mul-record : tie.Need-mul-record
 mul-record c = search needs
 
@@ -54,6 +57,7 @@ pub on-confirmation-spec : {M : Type 1} → statement M
 on-confirmation-spec =
     tie.close
     (tie.spec
+    cast-at
     mul-record
     element-copy-out-record
     confirm-call-requires

@@ -9,6 +9,9 @@ use Rattle.node.proofs.Sixteen.{looked-up}
 use Rattle.node.proofs.reads.on_read.Statement.{statement}
 use Rattle.node.proofs.reads.on_read.Tie as tie
 
+cast-at : tie.Need-cast-at
+cast-at c = search needs
+
 mul-record : tie.Need-mul-record
 mul-record c = search needs
 
@@ -27,4 +30,4 @@ returns c =
 
 pub on-read-spec : {M : Type 1} → statement M
 on-read-spec =
-    tie.close (tie.spec mul-record element-copy-out-record read-call-requires returns)
+    tie.close (tie.spec cast-at mul-record element-copy-out-record read-call-requires returns)

@@ -13,6 +13,9 @@ use Rattle.node.proofs.Sixteen.{looked-up}
 use Rattle.node.proofs.sets.on_set.Statement.{statement}
 use Rattle.node.proofs.sets.on_set.Tie as tie
 
+cast-at : tie.Need-cast-at
+cast-at c = search needs
+
 mul-record : tie.Need-mul-record
 mul-record c = search needs
 
@@ -42,6 +45,7 @@ pub on-set-spec : {M : Type 1} → statement M
 on-set-spec =
     tie.close
     (tie.spec
+    cast-at
     mul-record
     element-copy-out-record
     set-call-requires
