@@ -9,32 +9,28 @@ use borrow.Author.Needs.{needs}
 use Rattle.master_follow.proofs.over.carried_over.Statement.{statement}
 use Rattle.master_follow.proofs.over.carried_over.Tie as tie
 
+-- what is left after the step of w seconds
 pub record Left (w : ℕ) (start : tie.Start) (seconds rest : ℕ) : Type 0 where
   pub whole : seconds * 1000000000 + rest ≡ start .args .nanoseconds + start .args .span
   pub below : rest < w * 1000000000
 
 left-8 : (c : tie.Joined1) → Left 8 (c .before) (c .if1 .seconds) (c .if1 .rest)
-left-8 c =
-    ⊎-elim (λ w. omega arith) (λ w. omega arith)
-    (c .if1 .came)
+left-8 c = ⊎-elim (λ w. omega arith) (λ w. omega arith) (c .if1 .came)
 
 left-4 : (c : tie.Joined2) → Left 4 (c .before .before) (c .if2 .seconds) (c .if2 .rest)
 left-4 c =
     let left = left-8 (c .before) in
-    ⊎-elim (λ w. omega arith) (λ w. omega arith)
-    (c .if2 .came)
+    ⊎-elim (λ w. omega arith) (λ w. omega arith) (c .if2 .came)
 
 left-2 : (c : tie.Joined3) → Left 2 (c .before .before .before) (c .if3 .seconds) (c .if3 .rest)
 left-2 c =
     let left = left-4 (c .before) in
-    ⊎-elim (λ w. omega arith) (λ w. omega arith)
-    (c .if3 .came)
+    ⊎-elim (λ w. omega arith) (λ w. omega arith) (c .if3 .came)
 
 left-1 : (c : tie.Joined4) → Left 1 (c .before .before .before .before) (c .if4 .seconds) (c .if4 .rest)
 left-1 c =
     let left = left-2 (c .before) in
-    ⊎-elim (λ w. omega arith) (λ w. omega arith)
-    (c .if4 .came)
+    ⊎-elim (λ w. omega arith) (λ w. omega arith) (c .if4 .came)
 
 add-rest : tie.Need-add-rest
 add-rest c = search needs
