@@ -70,13 +70,11 @@ returns-2 c =
 
 returns-3 : tie.Need-returns-3
 returns-3 c =
-    let young = c .before in
-    let at = young .before in
-    let same = at .before in
+    let same = c .before .before .before in
     rw (
       same .before .before .sending .given .1,
       eq-eqb _ _ (confirmed same),
-      le-leb _ _ (in-time young),
+      le-leb _ _ (in-time (c .before)),
       not-true (same .before .before .before .before .args .room) (c .if3 .taken),
     )
 
