@@ -1,7 +1,7 @@
 // What comes over the second (paper 01, "A master's domain": "the whole seconds beyond those sent, and the
-// nanoseconds"), by comparing and subtracting. A FUP is worked out in the interrupt of its confirmation, whose stack has
-// no room for the controller's long division (paper 02, request 2). A loop that subtracts is compiled back into that
-// division; straight steps are not. `tools/controller` looks at what the compiler made.
+// nanoseconds"), by comparing and subtracting. A FUP is worked out in the interrupt of its confirmation, whose stack
+// has no room for the controller's long division (paper 02, request 2). A loop that subtracts is compiled back into
+// that division; straight steps are not. `tools/controller` looks at what the compiler made.
 ghost use mathlib.Core.Path.{_≡_};
 ghost use Rattle.master_follow.specs.Over.{overOf};
 

@@ -1,5 +1,5 @@
--- `master_follow::over::carried_over` meets its contract: after the step of w seconds nothing is lost, and less than w seconds
--- are left; after that of 1 these are the quotient and the rest.
+-- `master_follow::over::carried_over` meets its contract: after the step of w seconds nothing is lost, and less than
+-- w seconds are left; after that of 1 these are the quotient and the rest.
 -- Assumes nothing.
 use Prim.Native.Nat.{ℕ, _+_, _*_, _/_, _%_, _<_}
 use mathlib.Core.Path.{_≡_}
