@@ -1,4 +1,4 @@
--- Paper 01: a confirmation for one record: 1, 4 (`admittedOf`), 11, 12, 13 (`confirmOf`). Assumes nothing.
+-- Paper 01: a confirmation for one record: 1, 4 (`admittedOf`), 11, 12 (`confirmOf`). Assumes nothing.
 use Prim.Native.Nat.{ℕ}
 use mathlib.Core.Path.{_≡_}
 use mathlib.Core.List.{List}

@@ -18,7 +18,7 @@ pub struct ConfirmCall {
     pub kept: VirtualLocalTime,
 }
 
-// 1, 4, 11, 12, 13. The FUP is written at the start of `out`; all other bytes stay.
+// 1, 4, 11, 12. The FUP is written at the start of `out`; all other bytes stay.
 pub fn confirm_call(
     domain: Domain,
     kept: VirtualLocalTime,

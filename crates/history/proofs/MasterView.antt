@@ -41,7 +41,6 @@ use Rattle.admission.specs.declared.frames.FrameAdmission.{FrameAdmission}
 use Rattle.frame.specs.Values.{domainIn}
 use Rattle.admission.specs.FrameAdmission.{readFor}
 use Rattle.domain.specs.declared.Domain.{Domain}
-use Rattle.domain.specs.declared.Sending.the-variants.{Open}
 use Rattle.master_rules.specs.declared.due.Due.{Due}
 use Rattle.master_rules.proofs.Laws.{DueAt, by-due}
 use Rattle.master_follow.specs.declared.Follow.{Follow}
@@ -64,11 +63,12 @@ use Rattle.node.specs.declared.cycles.NodeCycle.{NodeCycle}
 use Rattle.node.specs.CycleAnswer.{cycleCount}
 use Rattle.node.specs.Cycle.{isRoomFor, goneFrom, nodeCycleOf, cycleBytes}
 use Rattle.node_call.specs.Calls.{Call, frame, read, set, cycle, confirm, nodeAfter, follows as answers, answerTo}
-use Rattle.node_laws.specs.Good.{SentWithin, RoleGood, Good}
+use Rattle.node_laws.specs.Good.{Good}
 use Rattle.round.specs.FirstDue.{Each}
 use Rattle.node_laws.specs.Back.{joined, IsEight}
 use Rattle.node_laws.proofs.Rounds.{AllGood, all-later, stored-good, turn-good, count-bound}
 use Rattle.node_laws.proofs.Cycles.{round-each, pasted-whole}
+use Rattle.node_laws.proofs.Bounds.{sent-within, ovs-here}
 use Rattle.history.specs.History.{Sent, readingOf, eights, givenBy, noted}
 use Rattle.history.proofs.Placed.{placed}
 use Rattle.history.proofs.Row.{syncValues, fupValues}
@@ -307,13 +307,6 @@ module _ (n : Node) (good : Good n) (i : ℕ) (below : i < places)
     kept-here =
         unmoved t g d _ l (ap (λ (ds : List Domain). recordAt ds i) (set-getD (n .domains) (asked % places) _))
 
-    sent-before :
-        (from : GlobalTime) (at : VirtualLocalTime) → c .settings .role ≡ Master →
-        c .sending ≡ Open counter (from .0) (from .1) at → at .0 ≤ n .kept .0
-    sent-before from at is e =
-        let m = subst (λ (r : Role). RoleGood r (n .kept) c) is (good .records (asked % places) (omega arith) .role) in
-        subst (SentWithin (n .kept) (c .base) (c .«next_counter»)) e (m .sent) .5
-
     abbrev Stepped : Follow → Type 0
     Stepped f = ConfirmMoves (confirmStepped (confirmAs f c counter) (n .kept) t)
 
@@ -343,9 +336,12 @@ module _ (n : Node) (good : Good n) (i : ℕ) (below : i < places)
         (c .number) (c .settings .role) asked master
         (λ tested.
         by-follow Stepped (c .settings .«confirmation_time») (c .sending) t counter (leb 8 (length out)) kept-here
-        kept-here (λ from at told many. kept-here)
-        (λ from at told few has-room.
-        let before = sent-before from at (master-admitted (c .settings .role) (tested .in-role)) (told .held) in
+        kept-here
+        (λ from at told has-room.
+        let is = master-admitted (c .settings .role) (tested .in-role) in
+        let record-good = good .records (asked % places) (omega arith) in
+        let before = sent-within (asked % places) (n .kept) c record-good _ (told .held) .5 in
+        let few = ovs-here (asked % places) (n .kept) c record-good is t counter from at told in
         followed from at told few (omega (arith, tested .not-before))))
         kept-here kept-here
 

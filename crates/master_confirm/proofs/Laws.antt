@@ -49,10 +49,10 @@ module _ (d : Domain) (t : VirtualLocalTime) (counter : ℕ) (room : Bool) where
       (λ (f : Follow).
       confirmNumber (confirmAs f d counter .answer) ≡ 0 → NotOpen (confirmAs f d counter .domain .sending))
       (d .settings .«confirmation_time») (d .sending) t counter room (λ e. absurd (omega arith))
-      (λ e. absurd (omega arith)) (λ g at told many e. absurd (omega arith)) (λ g at told few has-room e. tt)
+      (λ e. absurd (omega arith)) (λ g at told has-room e. tt)
 
   pub followed-has-room : (f : Fup) → confirmOf d t counter room .answer ≡ Followed f → room ≡ true
   followed-has-room f =
       by-follow (λ (x : Follow). confirmAs x d counter .answer ≡ Followed f → room ≡ true)
-      (d .settings .«confirmation_time») (d .sending) t counter room (λ e. cc) (λ e. cc) (λ g at told many e. cc)
-      (λ g at told few has-room e. has-room)
+      (d .settings .«confirmation_time») (d .sending) t counter room (λ e. cc) (λ e. cc)
+      (λ g at told has-room e. has-room)

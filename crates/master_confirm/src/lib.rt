@@ -34,7 +34,7 @@ pub struct ConfirmStep {
     pub domain: Domain,
 }
 
-// The FUP of the open SYNC, which is then no longer open, or 11, 12, 13. `room` says whether the buffer has the
+// The FUP of the open SYNC, which is then no longer open, or 11, 12. `room` says whether the buffer has the
 // 8 bytes of a FUP.
 pub fn confirm(domain: Domain, t: VirtualLocalTime, counter: u8, room: bool) -> ConfirmStep
     ensures { λ r. ⌜ r ≡ confirmOf domain t counter room ⌝ }

@@ -2,21 +2,21 @@
 --   whole-exact    the whole time is the SYNC's time and the reading's advance, to the nanosecond
 --   ovs-bound      OVS is at most 3 where C is in range and the SYNC's time is good
 --   over-exact     what comes over of numbers of 32 bits is OVS and the nanoseconds of the whole time
---   by-follow      what a confirmation finds: 11, 12, 13 or a FUP; `OpenFor` is told of the SYNC where it is open
+--   by-follow      what a confirmation finds: 11, 12 or a FUP; `OpenFor` is told of the SYNC where it is open
 -- Assumes nothing.
 use Prim.Native.Nat.{ℕ, _+_, _^_, _≤_, _<_}
 use mathlib.Core.Path.{_≡_, ap, ap₂}
 use mathlib.Core.Bool.{Bool, true}
 use native.Mathlib.Omega.{arith}
 use lib.Dec.{leb, eqb}
-use borrow.Author.Tests.{leb-true, leb-false, eqb-true}
+use borrow.Author.Tests.{leb-true, eqb-true}
 use Rattle.promise.proofs.Tests.{either-told, both}
 use Rattle.clock.specs.declared.reading.VirtualLocalTime.{VirtualLocalTime}
 use Rattle.clock.specs.declared.time.GlobalTime.{GlobalTime}
 use Rattle.clock.specs.Reading.{spanOf}
 use Rattle.clock.specs.Time.{nanosecondsOf, IsSet}
 use Rattle.clock.proofs.Laws.{carry-exact, advance-exact}
-use Rattle.refusal.specs.declared.Refusal.the-variants.{NoOpenSync, NoRoom, Ovs}
+use Rattle.refusal.specs.declared.Refusal.the-variants.{NoOpenSync, NoRoom}
 use Rattle.domain.specs.declared.Sending.{Sending}
 use Rattle.domain.specs.declared.Sending.the-variants.{Never, Open, Confirmed}
 use Rattle.master_follow.specs.declared.over.Over.{Over}
@@ -52,12 +52,11 @@ pub record OpenFor
 pub by-follow :
     (P : Follow → Type 0) (c : ℕ) (s : Sending) (t : VirtualLocalTime) (counter : ℕ) (room : Bool) →
     P (refused NoOpenSync) → P (refused NoRoom) →
-    ((g : GlobalTime) (at : VirtualLocalTime) → OpenFor c s t counter g at → 3 < ovsOf g at t → P (refused Ovs)) →
-    ((g : GlobalTime) (at : VirtualLocalTime) → OpenFor c s t counter g at → ovsOf g at t ≤ 3 → room ≡ true →
+    ((g : GlobalTime) (at : VirtualLocalTime) → OpenFor c s t counter g at → room ≡ true →
     P (With (ovsOf g at t) (wholeOf g at t .1) at)) →
     P (followOf c s t counter room)
-by-follow P c Never t counter room no-sync no-room above with = no-sync
-by-follow P c (Open sent seconds nanoseconds at) t counter room no-sync no-room above with =
+by-follow P c Never t counter room no-sync no-room with = no-sync
+by-follow P c (Open sent seconds nanoseconds at) t counter room no-sync no-room with =
     let g : GlobalTime = record { 0 = seconds; 1 = nanoseconds } in
     either-told P (isOpenFor c sent at t counter)
     (λ found.
@@ -68,10 +67,6 @@ by-follow P c (Open sent seconds nanoseconds at) t counter room no-sync no-room 
       soon = leb-true _ _ (tests .1);
     }
     in
-    either-told P room
-    (λ has-room.
-    either-told P (leb (ovsOf g at t) 3) (λ few. with g at told (leb-true _ _ few) has-room)
-    (λ many. above g at told (leb-false _ _ many)))
-    (λ none. no-room))
+    either-told P room (λ has-room. with g at told has-room) (λ none. no-room))
     (λ closed. no-sync)
-by-follow P c (Confirmed at) t counter room no-sync no-room above with = no-sync
+by-follow P c (Confirmed at) t counter room no-sync no-room with = no-sync

@@ -19,7 +19,7 @@ pub enum Follow {
     Refused(Refusal),
 }
 
-// 11, 12, 13, or the time of the FUP, which comes from the open SYNC alone, never from the base. `room` says
+// 11, 12, or the time of the FUP, which comes from the open SYNC alone, never from the base. `room` says
 // whether the buffer has the 8 bytes of a FUP.
 pub fn follow_up(
     confirmation_time: u32,
@@ -50,9 +50,6 @@ pub fn follow_up(
                 return Follow::Refused(Refusal::NoRoom);
             }
             let over = carried_over(nanoseconds, span as u32);
-            if 3 < over.seconds {
-                return Follow::Refused(Refusal::Ovs);
-            }
             Follow::With {
                 ovs: over.seconds,
                 nanoseconds: over.nanoseconds,

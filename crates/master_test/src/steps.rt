@@ -14,22 +14,20 @@ use master_send::send;
 use master_set::SetAnswer;
 use master_set::set_time;
 use settings::Role;
-use settings::Security;
 use test_line as line;
 
 // ---- a fresh record, of domain 3
 
-// A master that sends plain frames.
 pub fn fresh(period: u64, confirmation_time: u32) -> Domain {
-    fresh_as(Role::Master, Security::Plain, period, confirmation_time)
+    fresh_as(Role::Master, period, confirmation_time)
 }
 
-pub fn fresh_as(role: Role, security: Security, period: u64, confirmation_time: u32) -> Domain {
+pub fn fresh_as(role: Role, period: u64, confirmation_time: u32) -> Domain {
     line::word(b"fresh P");
     line::number(period);
     line::word(b" C");
     line::number(confirmation_time as u64);
-    let d = Domain::new(3, inputs::domain(role, security, period, confirmation_time));
+    let d = Domain::new(3, inputs::domain(role, period, confirmation_time));
     record::shown(d);
     d
 }

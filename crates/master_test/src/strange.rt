@@ -1,15 +1,14 @@
 // Records and readings that no node gives: each step still answers as its definition says.
 use crate::steps;
 use settings::Role;
-use settings::Security;
 
 // Only a master sends. The other steps do not look at the role.
 pub fn roles() {
-    let mut d = steps::fresh_as(Role::Slave, Security::Plain, 1_000, 500);
+    let mut d = steps::fresh_as(Role::Slave, 1_000, 500);
     d = steps::set(d, 0, 5, 0);
     d = steps::sent(d, 0);
     d = steps::confirmed(d, 0, 0);
-    d = steps::fresh_as(Role::Absent, Security::Plain, 1_000, 500);
+    d = steps::fresh_as(Role::Absent, 1_000, 500);
     d = steps::set(d, 0, 5, 0);
     d = steps::sent(d, 0);
 }
@@ -41,7 +40,23 @@ pub fn updates() {
     d = steps::set(d, 1, 6, 0);
 }
 
-// An open SYNC with nanoseconds of any size: up to 8 s come over, and above 3 is 13.
+// The last C that a node holds has OVS 3. With a longer one OVS goes on; past it 11. P is 5 s, C all of its 32 bits.
+pub fn overflow_seconds() {
+    overflow(3_000_000_000);
+    overflow(3_000_000_001);
+    overflow(4_294_967_295);
+    overflow(4_294_967_296);
+}
+
+// One nanosecond before the next second, confirmed at t.
+fn overflow(t: u64) {
+    let mut d = steps::fresh(5_000_000_000, 4_294_967_295);
+    d = steps::set(d, 0, 5, 999_999_999);
+    d = steps::sent(d, 0);
+    d = steps::confirmed(d, t, 0);
+}
+
+// An open SYNC with nanoseconds of any size: up to 8 s come over.
 pub fn nanoseconds() {
     steps::followed(4_294_967_295, 3_999_999_999, 0);
     steps::followed(4_294_967_295, 4_000_000_000, 0);

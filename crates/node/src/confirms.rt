@@ -12,7 +12,7 @@ pub struct NodeConfirm {
     pub node: Node,
 }
 
-// The FUP of a domain's open SYNC, written at the start of `out`: 1, 4, 11, 12, 13.
+// The FUP of a domain's open SYNC, written at the start of `out`: 1, 4, 11, 12.
 pub fn on_confirmation(
     node: Node,
     domain: u8,

@@ -2,24 +2,29 @@
 --   base-within          a base holds a time that can be received or set
 --   received-within      a slave's base holds a time that can be received
 --   set-within           a master's base holds a time that can be set
+--   base-before          a base's reading is at most the kept one
 --   read-within          a read shows a time that can be read
 --   time-exact-here      a base's time at t is its time plus t minus its reading, to the nanosecond
+--   sent-within          what was sent last is as `SentWithin` says, whatever the role
 --   next-counter-within  the counter that is next is below 16
---   next-counter-exact   so that taking it modulo 16 changes nothing
---   ovs-within           a master's confirmation is never refused for its OVS
---   call-ovs-within      nor is a call of one, on whatever record
+--   by-followed          the FUP of a confirmation is one of a master's open SYNC, at most C old
+--   ovs-here             whose OVS is at most 3
+--   call-ovs-within      so that the OVS of a call's is
+--   follow-exact         and its time is the SYNC's time plus the reading's advance
 -- Assumes nothing.
-use Prim.Native.Nat.{ℕ, _%_, _≤_, _<_}
+use Prim.Native.Nat.{ℕ, _≤_, _<_}
 use mathlib.Core.Path.{_≡_, refl, sym, ap, subst}
-use mathlib.Core.Bool.{Bool, true}
-use native.Mathlib.Nat.{mod-eq-of-lt}
+use mathlib.Core.Bool.{true, false}
 use native.Mathlib.Omega.{arith}
 use lib.Dec.{leb}
+use Rattle.frame.specs.declared.values.Fup.{Fup}
 use Rattle.frame.specs.ByteTwo.{counters}
 use Rattle.clock.specs.declared.reading.VirtualLocalTime.{VirtualLocalTime}
+use Rattle.clock.specs.declared.time.GlobalTime.{GlobalTime}
 use Rattle.clock.specs.declared.base.TimeBase.{TimeBase}
 use Rattle.clock.specs.declared.base.Held.{Held}
 use Rattle.clock.specs.declared.base.Held.the-variants.{Unset, Set}
+use Rattle.clock.specs.Reading.{spanOf}
 use Rattle.clock.specs.Time.{mostSet, mostReceived, IsSet, IsReceived}
 use Rattle.clock.specs.Base.{timeAt}
 use Rattle.clock.proofs.Laws.{time-exact, read-bound}
@@ -34,14 +39,17 @@ use Rattle.domain.specs.declared.Sending.the-variants.{Never, Open, Confirmed}
 use Rattle.admission.specs.declared.Admission.{Admission}
 use Rattle.admission.specs.declared.Needed.the-variants.{Master as master, Either}
 use Rattle.admission.proofs.Laws.{by-admission, master-admitted}
+use Rattle.master_rules.specs.Sent.{protectionOf}
 use Rattle.master_follow.specs.declared.Follow.{Follow}
-use Rattle.master_follow.proofs.Laws.{ovs-bound, by-follow}
-use Rattle.master_confirm.specs.Confirm.{confirmNumber, confirmAs, confirmOf}
+use Rattle.master_follow.specs.Follow.{wholeOf, ovsOf}
+use Rattle.master_follow.proofs.Laws.{whole-exact, ovs-bound, OpenFor, by-follow}
+use Rattle.master_confirm.specs.declared.ConfirmAnswer.the-variants.{Followed, Refused as not-followed}
+use Rattle.master_confirm.specs.Confirm.{confirmAs}
 use Rattle.call_read.specs.declared.ReadAnswer.the-variants.{Refused as not-shown}
 use Rattle.call_read.specs.ReadCall.{readAs, readCallAs, readCallOf}
 use Rattle.call_confirm.specs.ConfirmCall.{confirmCallAs, confirmCallOf}
 use Rattle.node_laws.specs.Good.{HeldWithin, SentWithin, RoleGood, RecordGood}
-use Rattle.node_laws.specs.Bounds.{HoldsReceived, ShowsRead, NotOvs, CarriedOn}
+use Rattle.node_laws.specs.Bounds.{HoldsReceived, ShowsRead, OvsMost, TimeExact, Follows}
 
 -- ---- the base, whatever the role
 
@@ -53,6 +61,50 @@ held-as : (r : Role) (kept : VirtualLocalTime) (d : Domain) → RoleGood r kept 
 held-as Absent kept d g = subst (λ (x : Domain). HeldWithin mostReceived kept (x .base)) (sym g) tt
 held-as Slave kept d g = g .base
 held-as Master kept d g = wider kept (d .base) (g .base)
+
+-- ---- what was sent last, whatever the role
+
+sent-as :
+    (r : Role) (kept : VirtualLocalTime) (d : Domain) → RoleGood r kept d →
+    SentWithin kept (d .base) (d .«next_counter») (d .sending)
+sent-as Absent kept d g = rw (ap (λ (x : Domain). x .sending) g) (ap (λ (x : Domain). x .«next_counter») g)
+sent-as Slave kept d g = rw (g .never) (g .next)
+sent-as Master kept d g = g .sent
+
+-- ---- the FUP of a confirmation that is not refused: a master's, of its open SYNC
+
+abbrev pub followedBy : Domain → (counter ovs nanoseconds : ℕ) → Fup
+followedBy d counter ovs nanoseconds =
+    record {
+      domain = d .number;
+      counter = counter;
+      sgw = false;
+      ovs = ovs;
+      nanoseconds = nanoseconds;
+      protection = protectionOf (d .settings .security) (d .settings .user .2);
+    }
+
+module _ (P : Fup → Type 0) (d : Domain) (kept t : VirtualLocalTime) (counter : ℕ) where
+  none : (refusal : Refusal) (f : Fup) → not-followed refusal ≡ Followed f → P f
+  none refusal f e = let no : _≡_ {A = ℕ} 0 1 = cc in absurd (omega arith)
+
+  pub by-followed :
+      (asked length : ℕ) →
+      (d .settings .role ≡ Master → kept .0 ≤ t .0 → (from : GlobalTime) (at : VirtualLocalTime) →
+      OpenFor (d .settings .«confirmation_time») (d .sending) t counter from at →
+      P (followedBy d counter (ovsOf from at t) (wholeOf from at t .1))) →
+      (f : Fup) → confirmCallOf d kept asked t counter length .answer ≡ Followed f → P f
+  by-followed asked length holds =
+      by-admission
+      (λ (a : Admission). (f : Fup) → confirmCallAs a d kept t counter length .answer ≡ Followed f → P f)
+      kept t (d .number) (d .settings .role) asked master
+      (λ tested.
+      by-follow (λ (x : Follow). (f : Fup) → confirmAs x d counter .answer ≡ Followed f → P f)
+      (d .settings .«confirmation_time») (d .sending) t counter (leb 8 length) (none _) (none _)
+      (λ from at told has-room f e.
+      let same : followedBy d counter (ovsOf from at t) (wholeOf from at t .1) ≡ f = cc in
+      subst P same (holds (master-admitted (d .settings .role) (tested .in-role)) (tested .not-before) from at told)))
+      (none _) (none _)
 
 module _ (i : ℕ) (kept : VirtualLocalTime) (d : Domain) (g : RecordGood i kept d) where
   within : (b : TimeBase) → d .base ≡ Set b → HeldWithin mostReceived kept (Set b)
@@ -69,13 +121,16 @@ module _ (i : ℕ) (kept : VirtualLocalTime) (d : Domain) (g : RecordGood i kept
       let h = subst (HeldWithin mostSet kept) e (subst (λ (r : Role). RoleGood r kept d) r (g .role) .base) in
       record { whole = h .0; part = h .1 }
 
+  pub base-before : (b : TimeBase) → d .base ≡ Set b → b .at .0 ≤ kept .0
+  base-before b e = within b e .2
+
   -- ---- the time at a reading
 
   pub time-exact-here :
       (b : TimeBase) (t : VirtualLocalTime) → d .base ≡ Set b → kept .0 ≤ t .0 → t .0 ≤ 1000000000000000000 →
-      CarriedOn b t
+      TimeExact (b .time) (b .at) (timeAt b t) t
   time-exact-here b t e le in-range =
-      (omega (arith, within b e .2), time-exact b t (base-within b e) in-range)
+      omega (arith, base-before b e, time-exact b t (base-within b e) in-range)
 
   pub read-within :
       (asked : ℕ) (t : VirtualLocalTime) → ShowsRead (readCallOf d kept asked t)
@@ -93,51 +148,57 @@ module _ (i : ℕ) (kept : VirtualLocalTime) (d : Domain) (g : RecordGood i kept
           let bound = read-bound b t (base-within b is) in-range in
           rw (← same) (record { whole = omega (arith, bound .whole); part = bound .part })
 
-  -- ---- the counter
+  -- ---- what was sent last
+
+  pub sent-within : (s : Sending) → d .sending ≡ s → SentWithin kept (d .base) (d .«next_counter») s
+  sent-within s e =
+      subst (SentWithin kept (d .base) (d .«next_counter»)) e (sent-as (d .settings .role) kept d (g .role))
 
   pub next-counter-within : d .«next_counter» < counters
-  next-counter-within = by-role (d .settings .role) (g .role)
+  next-counter-within = by-sending (d .sending) (sent-within (d .sending) refl)
     where
       by-sending : (s : Sending) → SentWithin kept (d .base) (d .«next_counter») s → d .«next_counter» < counters
       by-sending Never h = omega arith
       by-sending (Open counter seconds nanoseconds at) h = omega arith
       by-sending (Confirmed at) h = h .1
 
-      by-role : (r : Role) → RoleGood r kept d → d .«next_counter» < counters
-      by-role Absent h = omega (arith, ap (λ (x : Domain). x .«next_counter») h)
-      by-role Slave h = omega arith
-      by-role Master h = by-sending (d .sending) (h .sent)
+  -- ---- the FUP of an open SYNC, `told` by what it was confirmed with
 
-  pub next-counter-exact : d .«next_counter» % counters ≡ d .«next_counter»
-  next-counter-exact = mod-eq-of-lt next-counter-within
+  module _ (is : d .settings .role ≡ Master) (t : VirtualLocalTime) (counter : ℕ) (from : GlobalTime)
+      (at : VirtualLocalTime) (told : OpenFor (d .settings .«confirmation_time») (d .sending) t counter from at) where
+    sent : SentWithin kept (d .base) (d .«next_counter») (Open counter (from .0) (from .1) at)
+    sent = sent-within _ (told .held)
 
-  -- ---- OVS
+    good : IsSet from
+    good = record { whole = omega (arith, sent .3); part = sent .4 }
 
-  pub ovs-within :
-      d .settings .role ≡ Master → (t : VirtualLocalTime) (counter : ℕ) (room : Bool) →
-      NotOvs (confirmNumber (confirmOf d t counter room .answer))
-  ovs-within r t counter room =
-      by-follow (λ (f : Follow). NotOvs (confirmNumber (confirmAs f d counter .answer)))
-      (d .settings .«confirmation_time») (d .sending) t counter room (λ e. omega arith) (λ e. omega arith)
-      (λ from at told many e.
-      let h = subst (SentWithin kept (d .base) (d .«next_counter»)) (told .held) sent in
-      let good : IsSet from = record { whole = omega (arith, h .3); part = h .4 } in
-      omega (arith, many, ovs-bound from at t good (omega (arith, told .soon, in-range))))
-      (λ from at told few has-room e. omega arith)
-    where
-      in-range : d .settings .«confirmation_time» ≤ 3000000000
-      in-range =
-          master-range (d .settings) (subst (λ (r : Role). isGoodAs r (d .settings) ≡ true) r (g .settings))
-          .confirmation .1
+    fresh : spanOf at t ≤ 3000000000
+    fresh =
+        let settings = subst (λ (r : Role). isGoodAs r (d .settings) ≡ true) is (g .settings) in
+        omega (arith, told .soon, master-range (d .settings) settings .confirmation .1)
 
-      sent : SentWithin kept (d .base) (d .«next_counter») (d .sending)
-      sent = subst (λ (r : Role). RoleGood r kept d) r (g .role) .sent
+    pub ovs-here : ovsOf from at t ≤ 3
+    ovs-here = ovs-bound from at t good fresh
 
-  pub call-ovs-within :
-      (asked : ℕ) (t : VirtualLocalTime) (counter length : ℕ) →
-      NotOvs (confirmNumber (confirmCallOf d kept asked t counter length .answer))
-  call-ovs-within asked t counter length =
-      by-admission (λ (a : Admission). NotOvs (confirmNumber (confirmCallAs a d kept t counter length .answer)))
-      kept t (d .number) (d .settings .role) asked master
-      (λ tested. ovs-within (master-admitted (d .settings .role) (tested .in-role)) t counter (leb 8 length))
-      (λ e. omega arith) (λ e. omega arith)
+    follow-here :
+        kept .0 ≤ t .0 → Follows (d .sending) counter t (followedBy d counter (ovsOf from at t) (wholeOf from at t .1))
+    follow-here le =
+        record {
+          time = from;
+          at = at;
+          is = told .held;
+          exact = omega (arith, sent .5, whole-exact from at t good fresh);
+          part = omega arith;
+        }
+
+  module _ (asked : ℕ) (t : VirtualLocalTime) (counter length : ℕ) where
+    pub call-ovs-within : OvsMost (confirmCallOf d kept asked t counter length .answer)
+    call-ovs-within =
+        by-followed _ d kept t counter asked length
+        (λ is le from at told. omega (arith, ovs-here is t counter from at told))
+
+    pub follow-exact :
+        (f : Fup) → confirmCallOf d kept asked t counter length .answer ≡ Followed f → Follows (d .sending) counter t f
+    follow-exact =
+        by-followed (Follows (d .sending) counter t) d kept t counter asked length
+        (λ is le from at told. follow-here is t counter from at told le)

@@ -3,10 +3,8 @@
 --   held-before    on a good record, a reading that it holds is not after the kept one
 --   joined-moved   and where a FUP joins the open pair of a base that is set, D is the difference itself
 --   frame-moved    so that a frame that is answered by a D is answered by it
---   time-of-base   and its base's time at t is its time plus t minus its reading
---   shown-exact    so is the time that a read shows
---   sent-exact     and that of a SYNC
---   follow-exact   and a FUP's is its SYNC's time plus the reading's advance
+--   shown-exact    the time that a read shows is the base's plus t minus its reading
+--   sent-exact     and so is that of a SYNC
 --   caps-exact     each cap, for every reachable node
 --   bench-span     the hypotheses can be met: the bench's slave holds a reading, which is not after the kept one
 --   bench-answer   and after one more SYNC its FUP is answered by a D
@@ -30,7 +28,7 @@ use Rattle.clock.specs.declared.base.TimeBase.{TimeBase}
 use Rattle.clock.specs.declared.base.Held.{Held}
 use Rattle.clock.specs.declared.base.Held.the-variants.{Unset, Set}
 use Rattle.clock.specs.Reading.{isReading}
-use Rattle.clock.specs.Time.{IsSet, IsReceived, IsRead}
+use Rattle.clock.specs.Time.{IsReceived, IsRead}
 use Rattle.clock.specs.Base.{timeAt}
 use Rattle.clock.proofs.Laws.{time-exact, read-bound}
 use Rattle.clock.proofs.difference.Laws.{difference-read}
@@ -56,23 +54,20 @@ use Rattle.frame_laws.proofs.Laws.{byte-below}
 use Rattle.refusal.specs.declared.Refusal.{Refusal}
 use Rattle.settings.specs.declared.domain_settings.Role.{Role}
 use Rattle.settings.specs.declared.domain_settings.Role.the-variants.{Absent, Slave, Master}
-use Rattle.settings.specs.Ranges.{isGoodAs}
 use Rattle.settings.specs.Node.{places}
-use Rattle.settings.proofs.ranges.Laws.{master-range}
 use Rattle.admission.specs.declared.Admission.{Admission}
-use Rattle.admission.specs.declared.Needed.the-variants.{Slave as slave, Master as master, Either}
+use Rattle.admission.specs.declared.Needed.the-variants.{Slave as slave, Either}
 use Rattle.admission.specs.declared.frames.FrameAdmission.{FrameAdmission}
 use Rattle.admission.specs.declared.frames.FrameAdmission.the-variants.{Refused}
 use Rattle.admission.specs.Reading.{isGoodReading}
 use Rattle.admission.specs.Admission.{isIn, isFor}
 use Rattle.admission.specs.FrameAdmission.{readFor}
-use Rattle.admission.proofs.Laws.{Tested, good-reading, by-admission, slave-admitted, master-admitted}
+use Rattle.admission.proofs.Laws.{Tested, good-reading, by-admission, slave-admitted}
 use Rattle.domain.specs.declared.Domain.{Domain}
 use Rattle.domain.specs.declared.Pair.{Pair}
 use Rattle.domain.specs.declared.Pairing.the-variants.{Open as open-pair}
 use Rattle.domain.specs.declared.LastSync.{LastSync}
 use Rattle.domain.specs.declared.LastSync.the-variants.{Seen}
-use Rattle.domain.specs.declared.Sending.{Sending}
 use Rattle.domain.specs.Records.{recordAt}
 use Rattle.slave_counter.specs.Counter.{jumpOf}
 use Rattle.slave_counter.proofs.Laws.{jump-exact}
@@ -90,16 +85,10 @@ use Rattle.master_rules.specs.declared.due.Due.{Due}
 use Rattle.master_rules.specs.declared.due.Due.the-variants.{At}
 use Rattle.master_rules.proofs.Laws.{by-due}
 use Rattle.master_send.specs.Send.{dueIn}
-use Rattle.master_follow.specs.declared.Follow.{Follow}
-use Rattle.master_follow.specs.Follow.{wholeOf, ovsOf}
-use Rattle.master_follow.proofs.Laws.{whole-exact, by-follow}
-use Rattle.master_confirm.specs.declared.ConfirmAnswer.the-variants.{Followed, Refused as not-followed}
-use Rattle.master_confirm.specs.Confirm.{confirmAs, confirmOf}
 use Rattle.call_frame.specs.FrameCall.{frameCallAs, frameCallOf}
 use Rattle.call_read.specs.declared.Shown.{Shown}
 use Rattle.call_read.specs.declared.ReadAnswer.the-variants.{Time, Refused as not-shown}
 use Rattle.call_read.specs.ReadCall.{readAs, readCallAs, readCallOf}
-use Rattle.call_confirm.specs.ConfirmCall.{confirmCallAs, confirmCallOf}
 use Rattle.round.specs.Round.{goes}
 use Rattle.node.specs.declared.Node.{Node}
 use Rattle.node.specs.New.{newOf}
@@ -107,7 +96,8 @@ use Rattle.node.specs.Frame.{addressedBy, nodeFrameOf}
 use Rattle.node_call.specs.Calls.{Call, frame, nodeAfter, nodeAfterAll}
 use Rattle.bench_settings.specs.Bench.{benchWith}
 use Rattle.node_laws.specs.Reachable.{Reachable, after}
-use Rattle.node_laws.specs.Good.{LastWithin, PairWithin, BaseBefore, SentWithin, SlaveGood, RoleGood, RecordGood}
+use Rattle.node_laws.specs.Good.{LastWithin, PairWithin, BaseBefore, SlaveGood, RoleGood, RecordGood}
+use Rattle.node_laws.specs.Bounds.{TimeExact}
 use Rattle.node_laws.specs.Cases.{benchCalls}
 use Rattle.node_laws.specs.Caps.{
   HeldAt,
@@ -120,16 +110,20 @@ use Rattle.node_laws.specs.Caps.{
   SpanExact,
   Leads,
   JumpExact,
-  TimeExact,
   TimeOf,
-  Follows,
   MovedExact,
   Moves,
   Listed,
   CapsExact,
 }
-use Rattle.node_laws.proofs.Bounds.{base-within, time-exact-here}
-use Rattle.node_laws.proofs.Reachable.{reachable-good, counter-exact, round-exact}
+use Rattle.node_laws.proofs.Bounds.{
+  base-within,
+  base-before,
+  time-exact-here,
+  sent-within,
+  next-counter-within,
+}
+use Rattle.node_laws.proofs.Reachable.{reachable-good}
 use Rattle.node_laws.proofs.Laws.{stored-at}
 use Rattle.node_laws.proofs.Witness.{is-call, bench-reached, bench-held}
 
@@ -189,23 +183,12 @@ pair-as Absent kept d g = rw (ap (λ (x : Domain). x .pairing) g) tt
 pair-as Slave kept d g = g .pair
 pair-as Master kept d g = rw (g .waiting) tt
 
-sent-as :
-    (r : Role) (kept : VirtualLocalTime) (d : Domain) → RoleGood r kept d →
-    SentWithin kept (d .base) (d .«next_counter») (d .sending)
-sent-as Absent kept d g = rw (ap (λ (x : Domain). x .sending) g) (ap (λ (x : Domain). x .«next_counter») g)
-sent-as Slave kept d g = rw (g .never) (g .next)
-sent-as Master kept d g = g .sent
-
 module _ (i : ℕ) (kept : VirtualLocalTime) (d : Domain) (g : RecordGood i kept d) where
   last-here : LastWithin kept (d .last)
   last-here = last-as (d .settings .role) kept d (g .role)
 
   pair-here : (p : Pair) → d .pairing ≡ open-pair p → PairWithin (d .last) (open-pair p)
   pair-here p e = subst (PairWithin (d .last)) e (pair-as (d .settings .role) kept d (g .role))
-
-  sent-here : (s : Sending) → d .sending ≡ s → SentWithin kept (d .base) (d .«next_counter») s
-  sent-here s e =
-      subst (SentWithin kept (d .base) (d .«next_counter»)) e (sent-as (d .settings .role) kept d (g .role))
 
   seen-here : (counter : ℕ) (at : VirtualLocalTime) → d .last ≡ Seen counter at → LastWithin kept (Seen counter at)
   seen-here counter at e = subst (LastWithin kept) e last-here
@@ -215,11 +198,11 @@ module _ (i : ℕ) (kept : VirtualLocalTime) (d : Domain) (g : RecordGood i kept
 module _ (i : ℕ) (kept : VirtualLocalTime) (d : Domain) (g : RecordGood i kept d)
     (in-range : kept .0 ≤ 1000000000000000000) where
   pub held-before : (at : VirtualLocalTime) → HeldAt d at → at .0 ≤ kept .0
-  held-before at (of-base b e) = time-exact-here i kept d g b kept e (omega arith) in-range .0
+  held-before at (of-base b e) = base-before i kept d g b e
   held-before at (of-last counter from e) = seen-here i kept d g counter from e .1
   held-before at (of-pair p e) = seen-here i kept d g (p .counter) (p .at) (pair-here i kept d g p e .1) .1
-  held-before at (of-open counter seconds nanoseconds from e) = sent-here i kept d g _ e .5
-  held-before at (of-confirmed from e) = sent-here i kept d g _ e .2
+  held-before at (of-open counter seconds nanoseconds from e) = sent-within i kept d g _ e .5
+  held-before at (of-confirmed from e) = sent-within i kept d g _ e .2
 
   -- ---- D
 
@@ -311,11 +294,6 @@ module _ (i : ℕ) (kept : VirtualLocalTime) (d : Domain) (g : RecordGood i kept
 -- ---- times
 
 module _ (i : ℕ) (kept : VirtualLocalTime) (d : Domain) (g : RecordGood i kept d) (t : VirtualLocalTime) where
-  pub time-of-base :
-      (b : TimeBase) → d .base ≡ Set b → kept .0 ≤ t .0 → t .0 ≤ 1000000000000000000 →
-      TimeExact (b .time) (b .at) (timeAt b t) t
-  time-of-base b e le in-range = omega (arith, time-exact-here i kept d g b t e le in-range)
-
   refused-shows :
       (refusal : Refusal) (shown : Shown) → not-shown refusal ≡ Time shown → TimeOf (d .base) t (shown .time)
   refused-shows refusal shown e = let no : _≡_ {A = ℕ} 0 1 = cc in absurd (omega arith)
@@ -338,7 +316,7 @@ module _ (i : ℕ) (kept : VirtualLocalTime) (d : Domain) (g : RecordGood i kept
             is = is;
             exact =
                 subst (λ (g : GlobalTime). TimeExact (b .time) (b .at) g t) same
-                (time-of-base b is (tested .not-before) (tested .in-range));
+                (time-exact-here i kept d g b t is (tested .not-before) (tested .in-range));
           }
 
   pub sent-exact :
@@ -355,53 +333,8 @@ module _ (i : ℕ) (kept : VirtualLocalTime) (d : Domain) (g : RecordGood i kept
       record {
         base = b;
         is = told .held;
-        exact = omega (arith, first, second, time-of-base b (told .held) le in-range);
+        exact = omega (arith, first, second, time-exact-here i kept d g b t (told .held) le in-range);
       })
-
-  -- ---- a FUP
-
-  module _ (counter : ℕ) (f : Fup) where
-    refused-follows : (refusal : Refusal) → not-followed refusal ≡ Followed f → Follows (d .sending) counter t f
-    refused-follows refusal e = let no : _≡_ {A = ℕ} 0 1 = cc in absurd (omega arith)
-
-    step-follows :
-        kept .0 ≤ t .0 → d .settings .role ≡ Master → (room : Bool) → confirmOf d t counter room .answer ≡ Followed f →
-        Follows (d .sending) counter t f
-    step-follows le is room =
-        by-follow
-        (λ (follow : Follow). confirmAs follow d counter .answer ≡ Followed f → Follows (d .sending) counter t f)
-        (d .settings .«confirmation_time») (d .sending) t counter room (refused-follows _) (refused-follows _)
-        (λ from at told many. refused-follows _)
-        (λ from at told few has-room e.
-        let sent = sent-here i kept d g _ (told .held) in
-        let good : IsSet from = record { whole = omega (arith, sent .3); part = sent .4 } in
-        let first : ovsOf from at t ≡ f .ovs = cc in
-        let second : wholeOf from at t .1 ≡ f .nanoseconds = cc in
-        record {
-          time = from;
-          at = at;
-          is = told .held;
-          exact =
-              omega
-              (arith, first, second, sent .5, whole-exact from at t good (omega (arith, told .soon, in-range)));
-        })
-      where
-        in-range : d .settings .«confirmation_time» ≤ 3000000000
-        in-range =
-            master-range (d .settings) (subst (λ (r : Role). isGoodAs r (d .settings) ≡ true) is (g .settings))
-            .confirmation .1
-
-    pub follow-exact :
-        (asked length : ℕ) → confirmCallOf d kept asked t counter length .answer ≡ Followed f →
-        Follows (d .sending) counter t f
-    follow-exact asked length =
-        by-admission
-        (λ (a : Admission). confirmCallAs a d kept t counter length .answer ≡ Followed f →
-        Follows (d .sending) counter t f)
-        kept t (d .number) (d .settings .role) asked master
-        (λ tested.
-        step-follows (tested .not-before) (master-admitted (d .settings .role) (tested .in-role)) (leb 8 length))
-        (refused-follows _) (refused-follows _)
 
 -- ---- every reachable node
 
@@ -416,7 +349,6 @@ listed list e counter other h =
 pub caps-exact : (n : Node) → Reachable n → CapsExact n
 caps-exact n r =
     let good = reachable-good n r in
-    let below : (i : ℕ) → i % places < places = λ i. omega arith in
     record {
       spans =
           λ i h t at passes held.
@@ -437,17 +369,13 @@ caps-exact n r =
           (frame-moved at (n .kept) _ (good .records at (omega arith)) (good .kept) t bytes moved e);
       shown =
           λ domain t shown e.
-          shown-exact (domain % places) (n .kept) _ (good .records (domain % places) (below domain)) t domain shown e;
+          shown-exact (domain % places) (n .kept) _ (good .records (domain % places) (omega arith)) t domain shown e;
       sent =
           λ i h t passes seconds nanoseconds e.
           let range = good-reading (n .kept) t passes in
           sent-exact i (n .kept) _ (good .records i h) t (range .0) (range .1) seconds nanoseconds e;
-      followed =
-          λ domain t counter length f e.
-          follow-exact (domain % places) (n .kept) _ (good .records (domain % places) (below domain)) t counter f domain
-          length e;
-      counter = counter-exact n r;
-      round = round-exact n r;
+      counter = λ i h. mod-eq-of-lt (omega (arith, next-counter-within i (n .kept) _ (good .records i h)));
+      round = mod-eq-of-lt (omega (arith, good .round));
       sixteen = good .sixteen;
       place = λ bytes are. mod-eq-of-lt (omega (arith, byte-below bytes 2 are));
       ids =

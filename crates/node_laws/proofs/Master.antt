@@ -171,8 +171,8 @@ module _ (i : ℕ) (t : VirtualLocalTime) (d : Domain) (e : d .settings .role �
       ConfirmGood i (confirmStepped (confirmOf d t counter room) kept t)
   confirmed kept counter room old =
       by-follow (λ (f : Follow). ConfirmGood i (confirmStepped (confirmAs f d counter) kept t))
-      (d .settings .«confirmation_time») (d .sending) t counter room old old (λ from at told many. old)
-      (λ from at told few has-room.
+      (d .settings .«confirmation_time») (d .sending) t counter room old old
+      (λ from at told has-room.
       let h = subst (SentWithin t (d .base) (d .«next_counter»)) (told .held) (as-master i t d e g .sent) in
       sending-good (Confirmed at) (d .«next_counter») (h .0, omega arith, h .5))
 

@@ -52,7 +52,7 @@ use Rattle.slave_sync.specs.Sync.{takesSync}
 use Rattle.slave_update.specs.Update.{newBase, updateOf}
 use Rattle.slave_fup.specs.Fup.{takenBy}
 use Rattle.slave_frame.specs.Step.{kindOf}
-use Rattle.master_follow.specs.Follow.{isOpenFor, ovsOf}
+use Rattle.master_follow.specs.Follow.{isOpenFor}
 use Rattle.call_frame.specs.FrameCall.{frameCallAs}
 use Rattle.node.specs.declared.Node.{Node}
 use Rattle.node.specs.New.{newOf}
@@ -220,9 +220,7 @@ confirm-order n domain t counter out =
     sent good for (Open was seconds nanoseconds at) e =
         told (isOpenFor (d .settings .«confirmation_time») was at t counter)
         (λ its. told (leb 8 (length out))
-        (λ room. told (leb (ovsOf (record { 0 = seconds; 1 = nanoseconds }) at t) 3)
-        (λ few. simp (good, for, e, its, room, few)) (λ many. simp (good, for, e, its, room, many)))
-        (λ short. simp (good, for, e, its, short)))
+        (λ room. simp (good, for, e, its, room)) (λ short. simp (good, for, e, its, short)))
         (λ none. simp (good, for, e, none))
     sent good for (Confirmed at) e = simp (good, for, e)
 

@@ -5,10 +5,9 @@
 --   record-good      and so is each of its records
 --   received-most    a received time is at most 4,294,967,298 s
 --   read-most        a read time is at most 5,294,967,298 s, and has nanoseconds in range
---   ovs-most         no confirmation is refused by 13: OVS is at most 3 at every one that passes 11
---   counter-exact    the counter sent next is below 16, so that its cap is the identity
---   round-exact      and so is the place at which the next round starts
---   base-exact       and a base's time at t is its time plus t minus its reading
+--   ovs-most         a FUP's OVS is at most 3, as its two bits can hold
+--   fup-exact        and its time is that of the open SYNC plus the reading's advance, to the nanosecond
+--   base-exact       a base's time at t is its time plus t minus its reading
 --   sync-back        demand 2: each frame of a main cycle is read back as the values sent
 --   fup-back         and so is the FUP of a confirmation
 -- Assumes nothing.
@@ -16,28 +15,30 @@ use Prim.Native.Nat.{ℕ, _%_, _≤_, _<_}
 use mathlib.Core.Path.{_≡_}
 use mathlib.Core.Bool.{true}
 use mathlib.Core.List.{List}
-use native.Mathlib.Nat.{mod-eq-of-lt}
 use native.Mathlib.Omega.{arith}
 use lib.ListN.{length}
 use Rattle.settings.specs.Node.{places}
-use Rattle.frame.specs.ByteTwo.{counters}
+use Rattle.frame.specs.declared.values.Fup.{Fup}
 use Rattle.promise.proofs.Tests.{either, either-told}
 use Rattle.clock.specs.declared.reading.VirtualLocalTime.{VirtualLocalTime}
 use Rattle.clock.specs.declared.base.TimeBase.{TimeBase}
 use Rattle.clock.specs.declared.base.Held.the-variants.{Set}
+use Rattle.clock.specs.Base.{timeAt}
 use Rattle.admission.specs.Reading.{isGoodReading}
 use Rattle.domain.specs.declared.Domain.{Domain}
 use Rattle.domain.specs.Records.{recordAt}
+use Rattle.master_confirm.specs.declared.ConfirmAnswer.the-variants.{Followed}
 use Rattle.node.specs.declared.Node.{Node}
 use Rattle.node.specs.declared.cycles.NodeCycle.{NodeCycle}
 use Rattle.node.specs.Store.{storedIn}
 use Rattle.node.specs.Frame.{addressedBy}
 use Rattle.node.specs.Read.{nodeReadOf}
 use Rattle.node.specs.Cycle.{isRoomFor, goneFrom, cycledBy, nodeCycleOf}
-use Rattle.node_call.specs.Calls.{Call, frame, read, set, cycle, confirm, nodeAfter, answerTo, numberIn}
+use Rattle.node.specs.Confirm.{nodeConfirmOf}
+use Rattle.node_call.specs.Calls.{Call, frame, read, set, cycle, confirm, nodeAfter}
 use Rattle.node_laws.specs.Reachable.{IsCall, Reachable, new, after}
 use Rattle.node_laws.specs.Good.{RecordGood, Good}
-use Rattle.node_laws.specs.Bounds.{HoldsReceived, ShowsRead, NotOvs, CarriedOn}
+use Rattle.node_laws.specs.Bounds.{HoldsReceived, ShowsRead, OvsMost, TimeExact, Follows}
 use Rattle.round.specs.FirstDue.{Each}
 use Rattle.node_laws.specs.Back.{SyncBack}
 use Rattle.node_laws.specs.Demands.{FupBack}
@@ -52,7 +53,7 @@ use Rattle.node_laws.proofs.Bounds.{
   received-within,
   read-within,
   call-ovs-within,
-  next-counter-within,
+  follow-exact,
   time-exact-here,
 }
 
@@ -127,7 +128,7 @@ reachable-good n (after m r c is) = call-good m c is (reachable-good m r)
 pub record-good : (n : Node) → Reachable n → (i : ℕ) → i < places → RecordGood i (n .kept) (recordAt (n .domains) i)
 record-good n r = reachable-good n r .records
 
--- ---- the paper's bounds, and caps that are the identity
+-- ---- the paper's bounds, and its times to the nanosecond
 
 module _ (n : Node) (r : Reachable n) where
   at : (i : ℕ) → RecordGood (i % places) (n .kept) (recordAt (n .domains) (i % places))
@@ -140,25 +141,22 @@ module _ (n : Node) (r : Reachable n) where
   read-most domain =
       read-within (domain % places) (n .kept) (recordAt (n .domains) (domain % places)) (at domain) domain
 
-  pub ovs-most :
-      (domain : ℕ) (t : VirtualLocalTime) (counter : ℕ) (out : List ℕ) →
-      NotOvs (numberIn (answerTo n (confirm domain t counter out)))
-  ovs-most domain t counter out =
-      call-ovs-within (domain % places) (n .kept) (recordAt (n .domains) (domain % places)) (at domain) domain t
-      counter (length out)
+  module _ (domain : ℕ) (t : VirtualLocalTime) (counter length : ℕ) where
+    pub ovs-most : OvsMost (nodeConfirmOf n domain t counter length .answer)
+    ovs-most =
+        call-ovs-within (domain % places) (n .kept) (recordAt (n .domains) (domain % places)) (at domain) domain t
+        counter length
 
-  pub counter-exact :
-      (i : ℕ) → i < places →
-      recordAt (n .domains) i .«next_counter» % counters ≡ recordAt (n .domains) i .«next_counter»
-  counter-exact i h =
-      mod-eq-of-lt (omega (arith, next-counter-within i (n .kept) (recordAt (n .domains) i) (record-good n r i h)))
-
-  pub round-exact : n .round % places ≡ n .round
-  round-exact = mod-eq-of-lt (omega (arith, reachable-good n r .round))
+    pub fup-exact :
+        (f : Fup) → nodeConfirmOf n domain t counter length .answer ≡ Followed f →
+        Follows (recordAt (n .domains) (domain % places) .sending) counter t f
+    fup-exact =
+        follow-exact (domain % places) (n .kept) (recordAt (n .domains) (domain % places)) (at domain) domain t
+        counter length
 
   pub base-exact :
       (i : ℕ) → i < places → (b : TimeBase) (t : VirtualLocalTime) → recordAt (n .domains) i .base ≡ Set b →
-      n .kept .0 ≤ t .0 → t .0 ≤ 1000000000000000000 → CarriedOn b t
+      n .kept .0 ≤ t .0 → t .0 ≤ 1000000000000000000 → TimeExact (b .time) (b .at) (timeAt b t) t
   base-exact i h = time-exact-here i (n .kept) (recordAt (n .domains) i) (record-good n r i h)
 
   -- ---- demand 2

@@ -12,15 +12,12 @@ use Rattle.frame.specs.declared.values.Sync.{Sync}
 use Rattle.frame.specs.declared.values.Frame.{Frame}
 use Rattle.frame.specs.declared.values.Frame.the-variants.{Sync as sync}
 use Rattle.frame.specs.Types.{typeOf}
-use Rattle.frame.specs.ByteTwo.{counters}
 use Rattle.frame_read.specs.declared.Read.the-variants.{Values}
 use Rattle.frame_read.specs.Read.{readOf}
 use Rattle.frame_write.specs.Write.{bytesOf}
 use Rattle.frame_laws.specs.RoundTrip.{AreBytes, zeroReserved, rightIfSecured}
 use Rattle.settings.specs.Node.{places}
 use Rattle.domain.specs.declared.Domain.{Domain}
-use Rattle.domain.specs.declared.Sending.{Sending}
-use Rattle.domain.specs.declared.Sending.the-variants.{Never, Open, Confirmed}
 use Rattle.master_send.specs.declared.SendAnswer.the-variants.{Sent}
 use Rattle.master_send.specs.Send.{sendOf}
 use Rattle.domain.specs.Records.{recordAt}
@@ -49,12 +46,6 @@ abbrev pub OfSent : (List ℕ → Type 0) → VirtualLocalTime → List Domain �
 OfSent P t ds =
     (i : ℕ) → i < places → (values : Sync) → sendOf (recordAt ds i) t .answer ≡ Sent values →
     P (bytesOf (recordAt ds i .settings .ids) (sync values))
-
--- ---- an open SYNC's counter is one
-abbrev pub OpenBelow : Sending → Type 0
-OpenBelow Never = Unit {0}
-OpenBelow (Open counter seconds nanoseconds at) = counter < counters
-OpenBelow (Confirmed at) = Unit {0}
 
 -- ---- bytes that read as values, and are written back from them by their domain's Data-IDs
 pub record FrameBack (ids : DataIds) (bytes : List ℕ) : Type 0 where

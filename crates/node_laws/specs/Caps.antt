@@ -30,7 +30,6 @@ use Rattle.domain.specs.declared.Domain.{Domain}
 use Rattle.domain.specs.declared.Pair.{Pair}
 use Rattle.domain.specs.declared.Pairing.the-variants.{Open as open-pair}
 use Rattle.domain.specs.declared.LastSync.the-variants.{Seen}
-use Rattle.domain.specs.declared.Sending.{Sending}
 use Rattle.domain.specs.declared.Sending.the-variants.{Open, Confirmed}
 use Rattle.domain.specs.Records.{recordAt}
 use Rattle.slave_counter.specs.Counter.{jumpOf}
@@ -38,13 +37,12 @@ use Rattle.slave_answer.specs.declared.FrameAnswer.the-variants.{Updated}
 use Rattle.slave_update.specs.Update.{newBase, movedBy}
 use Rattle.master_rules.specs.declared.due.Due.the-variants.{At}
 use Rattle.master_send.specs.Send.{dueIn}
-use Rattle.master_confirm.specs.declared.ConfirmAnswer.the-variants.{Followed}
 use Rattle.call_read.specs.declared.Shown.{Shown}
 use Rattle.call_read.specs.declared.ReadAnswer.the-variants.{Time}
 use Rattle.node.specs.declared.Node.{Node}
 use Rattle.node.specs.Frame.{addressedBy, nodeFrameOf}
 use Rattle.node.specs.Read.{nodeReadOf}
-use Rattle.node.specs.Confirm.{nodeConfirmOf}
+use Rattle.node_laws.specs.Bounds.{TimeExact}
 
 -- ---- A reading that a record holds and that a rule takes from t: of its base (a read, TIMEOUT, due), of the SYNC
 -- accepted last (6), of the open pair (7), of the SYNC sent last (11 where it is open; due).
@@ -74,22 +72,11 @@ pub record JumpExact (last new : ℕ) : Type 0 where
   pub leads : Leads last new (jumpOf last new)
   pub only : (jump : ℕ) → Leads last new jump → jump ≡ jumpOf last new
 
--- ---- "that global time plus t minus that reading, exactly": g is `from`, true at `at`, carried on to t
-abbrev pub TimeExact : (from : GlobalTime) (at : VirtualLocalTime) (g : GlobalTime) (t : VirtualLocalTime) → Type 0
-TimeExact from at g t = nanosecondsOf g + at .0 ≡ nanosecondsOf from + t .0
-
 -- ---- a time shown or sent at t, of a base that is set
 pub record TimeOf (held : Held) (t : VirtualLocalTime) (g : GlobalTime) : Type 0 where
   pub base : TimeBase
   pub is : held ≡ Set base
   pub exact : TimeExact (base .time) (base .at) g t
-
--- ---- "The whole time is the SYNC's time plus the reading's advance": the seconds sent and OVS, and the nanoseconds
-pub record Follows (sending : Sending) (counter : ℕ) (t : VirtualLocalTime) (f : Fup) : Type 0 where
-  pub time : GlobalTime
-  pub at : VirtualLocalTime
-  pub is : sending ≡ Open counter (time .0) (time .1) at
-  pub exact : TimeExact time at (record { 0 = time .0 + f .ovs; 1 = f .nanoseconds }) t
 
 -- ---- "let D be the new time minus the old base's time, both at the new T2": neither end is held
 pub record MovedExact (old new : TimeBase) (moved : ℤ) : Type 0 where
@@ -109,8 +96,8 @@ abbrev pub Listed : List ℕ → Type 0
 Listed list = (counter other : ℕ) → counter < counters → idAt list counter ≡ getD list counter other
 
 -- ---- Each cap of a node's calls is the identity: spans; the jump of a SYNC as it is read; D where a FUP joins its
--- pair, and as it is answered; the time shown, the time of a SYNC, the time of a FUP; the counter sent next; the place
--- at which the next round starts; the records, of which there are 16; the place that a frame names; a DataID.
+-- pair, and as it is answered; the time shown, the time of a SYNC (a FUP's is told by `Follows`); the counter sent next;
+-- the place at which the next round starts; the records, of which there are 16; the place that a frame names; a DataID.
 pub record CapsExact (n : Node) : Type 0 where
   pub spans :
       (i : ℕ) → i < places → (t at : VirtualLocalTime) → Passes n t → HeldAt (recordAt (n .domains) i) at →
@@ -134,10 +121,6 @@ pub record CapsExact (n : Node) : Type 0 where
       (i : ℕ) → i < places → (t : VirtualLocalTime) → Passes n t → (seconds nanoseconds : ℕ) →
       dueIn (recordAt (n .domains) i) t ≡ At seconds nanoseconds →
       TimeOf (recordAt (n .domains) i .base) t (record { 0 = seconds; 1 = nanoseconds })
-  pub followed :
-      (domain : ℕ) (t : VirtualLocalTime) (counter length : ℕ) (f : Fup) →
-      nodeConfirmOf n domain t counter length .answer ≡ Followed f →
-      Follows (recordAt (n .domains) (domain % places) .sending) counter t f
   pub counter :
       (i : ℕ) → i < places →
       recordAt (n .domains) i .«next_counter» % counters ≡ recordAt (n .domains) i .«next_counter»

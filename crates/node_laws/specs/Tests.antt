@@ -39,7 +39,7 @@ use Rattle.domain.specs.declared.Sending.the-variants.{Never, Open, Confirmed}
 use Rattle.domain.specs.Records.{recordAt}
 use Rattle.slave_pair.specs.Join.{isOld, isOther, isAbove}
 use Rattle.slave_sync.specs.Sync.{takesSync}
-use Rattle.master_follow.specs.Follow.{isOpenFor, ovsOf}
+use Rattle.master_follow.specs.Follow.{isOpenFor}
 use Rattle.node.specs.declared.Node.{Node}
 use Rattle.node.specs.Frame.{addressedBy}
 use Rattle.node.specs.Cycle.{isRoomFor}
@@ -90,12 +90,6 @@ noOpenSync c Never t counter = true
 noOpenSync c (Open sent seconds nanoseconds at) t counter = not (isOpenFor c sent at t counter)
 noOpenSync c (Confirmed at) t counter = true
 
--- ---- 13 "OVS above 3", of an open SYNC
-abbrev pub ovsAbove : Sending → VirtualLocalTime → Bool
-ovsAbove Never t = false
-ovsAbove (Open sent seconds nanoseconds at) t = not (leb (ovsOf (record { 0 = seconds; 1 = nanoseconds }) at t) 3)
-ovsAbove (Confirmed at) t = false
-
 -- ---- A frame: 1, 2, 3, 4, 5; then a SYNC 6, a FUP 7, 8, 9.
 abbrev pub kindTests : Read → Domain → VirtualLocalTime → Tests
 kindTests (Values (sync s)) d t = (6, not (takesSync d t s)) ∷ []
@@ -142,7 +136,7 @@ cycleTests n t out =
     ∷ (12, not (isRoomFor n (length out)))
     ∷ []
 
--- ---- A confirmation: 1, 4, 11, 12 "output buffer under 8 bytes", 13.
+-- ---- A confirmation: 1, 4, 11, 12 "output buffer under 8 bytes".
 abbrev pub confirmTests : Node → (domain : ℕ) → VirtualLocalTime → (counter : ℕ) (out : List ℕ) → Tests
 confirmTests n domain t counter out =
     let d = recordAt (n .domains) (domain % places) in
@@ -150,7 +144,6 @@ confirmTests n domain t counter out =
     ∷ (4, notFor d domain Master)
     ∷ (11, noOpenSync (d .settings .«confirmation_time») (d .sending) t counter)
     ∷ (12, not (leb 8 (length out)))
-    ∷ (13, ovsAbove (d .sending) t)
     ∷ []
 
 -- ---- `new`: 14 "settings out of range".

@@ -1,5 +1,5 @@
 // Calls to a node that no constructor gives (paper 01): its master waits for a confirmation as long as 32 bits
-// can say, was updated 255 times, and sends counter 15 next. So 13 shows, which no good C reaches, and the
+// can say, was updated 255 times, and sends counter 15 next. So 4 s come over, which no good C lets come, and the
 // counters pass their ends. A line each, as the trial has them; the trial's tests have every other case.
 use clock::VirtualLocalTime;
 use domain::Domain;
@@ -16,7 +16,8 @@ use settings::UserBytes;
 use text::pieces::write_out;
 use trial_step::line::put_trial_line;
 
-// The set; the read; SYNC 15. 13 at a FUP with OVS 4, 12 before it; then OVS 3 a nanosecond earlier. SYNC 0.
+// The set; the read; SYNC 15. 12 at its confirmation; then OVS 3 a nanosecond before 4 s come over. SYNC 0, and its
+// FUP, for which 4 s come over: OVS has two bits, and is written as 0.
 fn main() {
     let mut n = strange();
     n = ask(n, 1, Request::Set(4, VirtualLocalTime(5000), 5, 0), 10);
@@ -26,21 +27,21 @@ fn main() {
         n,
         4,
         Request::Confirm(4, VirtualLocalTime(4_000_005_000), 15),
-        10,
-    );
-    n = ask(
-        n,
-        5,
-        Request::Confirm(4, VirtualLocalTime(4_000_005_000), 15),
         7,
     );
     n = ask(
         n,
-        6,
+        5,
         Request::Confirm(4, VirtualLocalTime(4_000_004_999), 15),
         10,
     );
-    n = ask(n, 7, Request::Cycle(VirtualLocalTime(4_000_005_000)), 10);
+    n = ask(n, 6, Request::Cycle(VirtualLocalTime(4_000_005_000)), 10);
+    n = ask(
+        n,
+        7,
+        Request::Confirm(4, VirtualLocalTime(8_000_005_000), 0),
+        10,
+    );
 }
 
 // A call with a lent buffer of 10 bytes, or 7.

@@ -1,2 +1,3 @@
 -- The laws of `refusal`.
+pub mod Laws
 pub mod Only

@@ -14,7 +14,6 @@ use Rattle.refusal.specs.declared.Refusal.the-variants.{
   NeverSet,
   NoOpenSync,
   NoRoom,
-  Ovs,
   Settings,
 }
 
@@ -31,5 +30,4 @@ numberOf Nanoseconds = 9
 numberOf NeverSet = 10
 numberOf NoOpenSync = 11
 numberOf NoRoom = 12
-numberOf Ovs = 13
 numberOf Settings = 14

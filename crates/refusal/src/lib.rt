@@ -28,8 +28,6 @@ pub enum Refusal {
     NoOpenSync,
     // 12: output buffer too short
     NoRoom,
-    // 13: OVS above 3
-    Ovs,
     // 14: settings out of range
     Settings,
 }
@@ -52,7 +50,6 @@ impl Refusal {
             Refusal::NeverSet => 10,
             Refusal::NoOpenSync => 11,
             Refusal::NoRoom => 12,
-            Refusal::Ovs => 13,
             Refusal::Settings => 14,
         }
     }

@@ -84,51 +84,26 @@ cast-carried-over c = search needs
 carried-over-requires : tie.Need-carried-over-requires
 carried-over-requires c κs = search needs
 
-returns-4 : tie.Need-returns-4
-returns-4 c =
-    let over = c .before .before in
-    let roomy = over .before in
-    let young = roomy .before in
-    let same = young .before .before in
-    let told = same .before in
-    let a = told .before .before .before .args in
-    let many : 3 < ovsOf (time told) (sent-at told) (a .t) =
-    omega (arith, rw (comes-over over) at (c .if4 .taken)) in
-    rw (
-      told .before .sending .given .1,
-      eq-eqb _ _ (confirmed same),
-      le-leb _ _ (in-time young),
-      not-false (a .room) (roomy .if3 .left),
-      lt-leb _ _ many,
-    )
-
 enum-told-2 : tie.Need-enum-told-2
 enum-told-2 c = search needs
 
-returns-5 : tie.Need-returns-5
-returns-5 c = rw (c .enum-told .given .1)
+returns-4 : tie.Need-returns-4
+returns-4 c = rw (c .enum-told .given .1)
 
-returns-6 : tie.Need-returns-6
-returns-6 c =
-    let over = c .before .before in
-    let roomy = over .before in
-    let young = roomy .before in
+returns-5 : tie.Need-returns-5
+returns-5 c =
+    let young = c .before .before in
     let same = young .before .before in
-    let told = same .before in
-    let a = told .before .before .before .args in
-    let few : ovsOf (time told) (sent-at told) (a .t) ≤ 3 =
-    omega (arith, rw (comes-over over) at (c .if4 .left)) in
     rw (
-      told .before .sending .given .1,
+      same .before .before .sending .given .1,
       eq-eqb _ _ (confirmed same),
       le-leb _ _ (in-time young),
-      not-false (a .room) (roomy .if3 .left),
-      le-leb _ _ few,
-      comes-over over,
+      not-false (same .before .before .before .before .args .room) (c .before .if3 .left),
+      comes-over c,
     )
 
-returns-7 : tie.Need-returns-7
-returns-7 c = rw (c .enum-told2 .given .1)
+returns-6 : tie.Need-returns-6
+returns-6 c = rw (c .enum-told2 .given .1)
 
 pub follow-up-spec : {M : Type 1} → statement M
 follow-up-spec =
@@ -142,8 +117,7 @@ follow-up-spec =
     returns-3
     cast-carried-over
     carried-over-requires
-    returns-4
     enum-told-2
+    returns-4
     returns-5
-    returns-6
-    returns-7)
+    returns-6)
