@@ -14,7 +14,7 @@ pub struct NodeConfirm {
 
 // The FUP of a domain's open SYNC, written at the start of `out`: 1, 4, 11, 12.
 pub fn on_confirmation(
-    node: Node,
+    mut node: Node,
     domain: u8,
     t: VirtualLocalTime,
     counter: u8,
@@ -29,11 +29,7 @@ pub fn on_confirmation(
     let answer = call.answer;
     let after = call.domain;
     let then = call.kept;
-    let mut after_node = node;
-    after_node.domains[at] = after;
-    after_node.kept = then;
-    NodeConfirm {
-        answer,
-        node: after_node,
-    }
+    node.domains[at] = after;
+    node.kept = then;
+    NodeConfirm { answer, node }
 }

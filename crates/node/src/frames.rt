@@ -14,7 +14,7 @@ pub struct NodeFrame {
 }
 
 // A frame of any length at t: 1, 2, 3, 4, 5; then 6, or 7, 8, 9.
-pub fn on_frame(node: Node, t: VirtualLocalTime, bytes: &[u8]) -> NodeFrame
+pub fn on_frame(mut node: Node, t: VirtualLocalTime, bytes: &[u8]) -> NodeFrame
     ensures { λ r. ⌜ r ≡ nodeFrameOf node t (now (bytes .entry)) ⌝ }
 {
     let at = (named_domain(bytes) % PLACES) as usize;
@@ -24,11 +24,7 @@ pub fn on_frame(node: Node, t: VirtualLocalTime, bytes: &[u8]) -> NodeFrame
     let answer = call.answer;
     let after = call.domain;
     let then = call.kept;
-    let mut after_node = node;
-    after_node.domains[at] = after;
-    after_node.kept = then;
-    NodeFrame {
-        answer,
-        node: after_node,
-    }
+    node.domains[at] = after;
+    node.kept = then;
+    NodeFrame { answer, node }
 }

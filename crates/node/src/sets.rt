@@ -14,7 +14,7 @@ pub struct NodeSet {
 
 // The base of a domain holds the given time at t: 1, 4, 9.
 pub fn on_set(
-    node: Node,
+    mut node: Node,
     domain: u8,
     t: VirtualLocalTime,
     seconds: u32,
@@ -29,11 +29,7 @@ pub fn on_set(
     let answer = call.answer;
     let after = call.domain;
     let then = call.kept;
-    let mut after_node = node;
-    after_node.domains[at] = after;
-    after_node.kept = then;
-    NodeSet {
-        answer,
-        node: after_node,
-    }
+    node.domains[at] = after;
+    node.kept = then;
+    NodeSet { answer, node }
 }
