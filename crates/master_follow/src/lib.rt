@@ -9,7 +9,8 @@ ghost use mathlib.Core.Path.{_≡_};
 ghost use Rattle.master_follow.specs.Follow.{followOf};
 
 // What a confirmation finds: the time of its FUP and when its SYNC was sent, or the number by which it
-// is refused.
+// is refused. OVS is at most 3 on every node that calls give (`ovs-most`); on another record it may be
+// up to 8, and is written modulo 4.
 pub enum Follow {
     With {
         ovs: u8,
