@@ -4,6 +4,7 @@
 --                   is written back byte for byte (demand 2)
 --   byte-below      each place of bytes holds one
 --   good-back       what is written is good under each mode that takes its kind
+--   named-back      it names the domain of its values
 -- Assumes nothing.
 use Prim.Native.Nat.{ℕ, zero, suc, _+_, _*_, _/_, _%_, _^_, _<_}
 use mathlib.Core.Path.{_≡_, refl, sym, ap, _∙_, subst}
@@ -29,10 +30,10 @@ use Rattle.frame_check.specs.declared.CheckMode.{CheckMode}
 use Rattle.frame.specs.Types.{typeOf}
 use Rattle.frame.specs.ByteTwo.{byteTwoOf}
 use Rattle.frame.specs.Ids.{idAt}
-use Rattle.frame_read.specs.Read.{readOf, valuesOf, wordOf, syncIn, fupIn}
+use Rattle.frame_read.specs.Read.{namedDomain, readOf, valuesOf, wordOf, syncIn, fupIn}
 use Rattle.frame_write.specs.Write.{flags, restOf, framedOf, bytesOf}
 use Rattle.frame_check.specs.Check.{isTaken, isRight, takesSecured}
-use Rattle.frame.specs.Values.{protectionIn}
+use Rattle.frame.specs.Values.{domainIn, protectionIn}
 use Rattle.frame_laws.specs.RoundTrip.{FrameFits, takesKind, AreBytes, zeroReserved, rightIfSecured}
 
 -- ---- read-back
@@ -235,3 +236,25 @@ pub good-back :
 good-back mode ids (sync s) = good-sync mode ids (s .domain) (s .counter) (s .user0) (s .seconds) (s .protection)
 good-back mode ids (fup f) =
     good-fup mode ids (f .domain) (f .counter) (flags (f .sgw) (f .ovs)) (f .nanoseconds) (f .protection)
+
+-- ---- named-back
+
+byte-two :
+    (plain secured : ℕ) (p : Protection) (two three word id : ℕ) →
+    getD (framedOf plain secured p two three word id) 2 0 ≡ two
+byte-two plain secured (Plain user) two three word id = refl
+byte-two plain secured Secured two three word id = refl
+
+pub named-back : (ids : DataIds) (f : Frame) → domainIn f < 16 → namedDomain (bytesOf ids f) ≡ domainIn f
+named-back ids (sync s) h =
+    omega (
+      arith,
+      byte-two 0x10 0x20 (s .protection) (byteTwoOf (s .domain) (s .counter)) (s .user0) (s .seconds)
+          (idAt (ids .sync) (s .counter)),
+    )
+named-back ids (fup f) h =
+    omega (
+      arith,
+      byte-two 0x18 0x28 (f .protection) (byteTwoOf (f .domain) (f .counter)) (flags (f .sgw) (f .ovs))
+          (f .nanoseconds) (idAt (ids .fup) (f .counter)),
+    )

@@ -11,17 +11,15 @@ use Rattle.promise.proofs.Tests.{either}
 use Rattle.clock.specs.declared.reading.VirtualLocalTime.{VirtualLocalTime}
 use Rattle.clock.specs.declared.time.GlobalTime.{GlobalTime}
 use Rattle.node.specs.Frame.{addressedBy}
-use Rattle.node_call.specs.Calls.{answerTo}
+use Rattle.node_call.specs.Calls.{readingOf, answerTo, givenBy}
 use Rattle.history.specs.History.{
   Link,
   Event,
   atMaster,
   atSlave,
   History,
-  readingOf,
   masterAfter,
   masterRecord,
-  givenBy,
   Sent,
   timeIn,
   noted,

@@ -2,15 +2,15 @@
 --   Moves            what a call at t may do to a record and to the list of what was sent in its domain
 --   master-moves     what a call of a good node does to a master's record, and gives in its domain, is such a move
 -- Assumes nothing.
-use Prim.Native.Nat.{ℕ, zero, suc, _+_, _*_, _%_, _≤_, _<_}
+use Prim.Native.Nat.{ℕ, zero, suc, _%_, _≤_, _<_}
 use mathlib.Core.Path.{_≡_, refl, sym, ap, _∙_, subst}
 use mathlib.Core.Bool.{Bool, true, false, and-false}
-use mathlib.Core.List.{List, [], _∷_, _++_, append-assoc}
+use mathlib.Core.List.{List, [], _∷_, _++_}
 use native.Mathlib.Omega.{arith}
 use lib.Dec.{leb, ltb, eqb}
-use lib.ListN.{length, getD, take, drop, set as put}
-use lib.Seq.{set-getD, take-at, drop-at}
-use borrow.Author.Tests.{leb-true, eq-eqb, ne-eqb}
+use lib.ListN.{length, drop, set as put}
+use lib.Seq.{set-getD, take-at}
+use borrow.Author.Tests.{eq-eqb, ne-eqb}
 use Rattle.settings.specs.Node.{places}
 use Rattle.frame.specs.ByteTwo.{counters}
 use Rattle.round.specs.Turn.{nextPlace}
@@ -20,16 +20,12 @@ use Rattle.clock.specs.declared.time.GlobalTime.{GlobalTime}
 use Rattle.clock.specs.declared.base.TimeBase.{TimeBase}
 use Rattle.clock.specs.Base.{timeAt}
 use Rattle.frame.specs.declared.data_ids.DataIds.{DataIds}
-use Rattle.frame.specs.declared.values.Protection.{Protection}
-use Rattle.frame.specs.declared.values.Protection.the-variants.{Plain, Secured}
 use Rattle.frame.specs.declared.values.Frame.{Frame}
 use Rattle.frame.specs.declared.values.Frame.the-variants.{Sync as sync, Fup as fup}
 use Rattle.frame_read.specs.declared.Read.{Read}
 use Rattle.frame_read.specs.declared.Read.the-variants.{LengthNot8, NoSuchType, Values}
 use Rattle.frame_read.specs.Read.{readOf}
-use Rattle.frame.specs.ByteTwo.{byteTwoOf}
-use Rattle.frame.specs.Ids.{idAt}
-use Rattle.frame_write.specs.Write.{flags, framedOf, bytesOf}
+use Rattle.frame_write.specs.Write.{bytesOf}
 use Rattle.frame_write.proofs.Laws.{bytes-length}
 use Rattle.settings.specs.declared.domain_settings.Role.{Role}
 use Rattle.settings.specs.declared.domain_settings.Role.the-variants.{Master}
@@ -55,21 +51,32 @@ use Rattle.call_set.specs.SetCall.{setStepped, setCallAs, setCallOf}
 use Rattle.call_confirm.specs.declared.ConfirmCall.{ConfirmCall}
 use Rattle.call_confirm.specs.ConfirmCall.{confirmStepped, confirmCallAs, confirmCallOf, confirmBytes}
 use Rattle.domain.specs.Records.{recordAt}
-use Rattle.round.specs.Round.{framesBy, sentAfter, goes, pasted}
+use Rattle.round.specs.Round.{framesBy, sentAfter, goes}
 use Rattle.round.specs.Turn.{turnOf, nextAfter}
 use Rattle.node.specs.declared.Node.{Node}
 use Rattle.node.specs.Frame.{addressedBy}
 use Rattle.node.specs.declared.cycles.NodeCycle.{NodeCycle}
 use Rattle.node.specs.CycleAnswer.{cycleCount}
-use Rattle.node.specs.Cycle.{isRoomFor, goneFrom, nodeCycleOf, cycleBytes}
-use Rattle.node_call.specs.Calls.{Call, frame, read, set, cycle, confirm, nodeAfter, follows as answers, answerTo}
+use Rattle.node.specs.Cycle.{isRoomFor, nodeCycleOf, cycleBytes}
+use Rattle.node_call.specs.Calls.{
+  Call,
+  frame,
+  read,
+  set,
+  cycle,
+  confirm,
+  readingOf,
+  nodeAfter,
+  follows as answers,
+  answerTo,
+  eights,
+  givenBy,
+}
 use Rattle.node_laws.specs.Good.{Good}
-use Rattle.round.specs.FirstDue.{Each}
-use Rattle.node_laws.specs.Back.{joined, IsEight}
-use Rattle.node_laws.proofs.Rounds.{AllGood, all-later, stored-good, turn-good, count-bound}
-use Rattle.node_laws.proofs.Cycles.{round-each, pasted-whole}
+use Rattle.node_laws.proofs.Rounds.{AllGood, all-later, stored-good, turn-good}
+use Rattle.node_laws.proofs.Cycles.{addressed, given-here}
 use Rattle.node_laws.proofs.Bounds.{sent-within, ovs-here}
-use Rattle.history.specs.History.{Sent, readingOf, eights, givenBy, noted}
+use Rattle.history.specs.History.{Sent, noted}
 use Rattle.history.proofs.Placed.{placed}
 use Rattle.history.proofs.Row.{syncValues, fupValues}
 
@@ -105,40 +112,6 @@ module _ (t : VirtualLocalTime) (g : GlobalTime) where
 
   unmoved : (d e : Domain) (l : List Sent) → e ≡ d → Moves d l e l
   unmoved d e l p = rw p (stays d d l refl refl refl)
-
--- ---- a frame names its domain; frames of 8 bytes, written one after another, are found again
-
-byte-two :
-    (plain secured : ℕ) (p : Protection) (two three word id : ℕ) →
-    getD (framedOf plain secured p two three word id) 2 0 ≡ two
-byte-two plain secured (Plain user) two three word id = refl
-byte-two plain secured Secured two three word id = refl
-
-addressed : (ids : DataIds) (f : Frame) → domainIn f < places → addressedBy (bytesOf ids f) ≡ domainIn f
-addressed ids (sync s) h =
-    omega (
-      arith,
-      byte-two 0x10 0x20 (s .protection) (byteTwoOf (s .domain) (s .counter)) (s .user0) (s .seconds)
-          (idAt (ids .sync) (s .counter)),
-    )
-addressed ids (fup f) h =
-    omega (
-      arith,
-      byte-two 0x18 0x28 (f .protection) (byteTwoOf (f .domain) (f .counter)) (flags (f .sgw) (f .ovs))
-          (f .nanoseconds) (idAt (ids .fup) (f .counter)),
-    )
-
-eights-back :
-    (frames : List (List ℕ)) (rest : List ℕ) → Each IsEight frames →
-    eights (length frames) (joined frames ++ rest) ≡ frames
-eights-back [] rest each = refl
-eights-back (f ∷ fs) rest each =
-    let split = append-assoc f (joined fs) rest in
-    λ i. (ap (take 8) split ∙ take-at f (joined fs ++ rest) 8 (each .0)) i
-    ∷ (ap (λ (l : List ℕ). eights (length fs) (drop 8 l)) split
-    ∙ ap (eights (length fs)) (drop-at f (joined fs ++ rest) 8 (each .0))
-    ∙ eights-back fs rest (each .1))
-    i
 
 module _ (i : ℕ) (below : i < places) (t : VirtualLocalTime) (g : GlobalTime) where
   -- ---- a frame of the domain is noted, another's is not
@@ -260,31 +233,13 @@ module _ (n : Node) (good : Good n) (i : ℕ) (below : i < places)
         Moves t g d l (recordAt (r .node .domains) i)
         (noted i t g (eights (cycleCount (r .answer)) (cycleBytes (r .answer) n t out)) l)
 
-    abbrev sent : List (List ℕ)
-    sent = goneFrom n t .frames
-
-    found : isRoomFor n (length out) ≡ true → eights (length sent) (pasted 0 sent out) ≡ sent
-    found room =
-        let each =
-        round-each IsEight (n .«syncs_per_cycle») t (n .domains)
-        (λ i h s e. bytes-length (recordAt (n .domains) i .settings .ids) (sync s)) (n .round)
-        in
-        let fits : 8 * length sent ≤ length out =
-        omega (
-          arith,
-          leb-true (8 * n .«syncs_per_cycle») (length out) room,
-          count-bound (n .domains) (n .round) t (n .«syncs_per_cycle»),
-        )
-        in
-        ap (eights (length sent)) (pasted-whole sent out each fits) ∙ eights-back sent (drop (8 * length sent) out) each
-
     cycle-moves : CycleMoves (nodeCycleOf n t (length out))
     cycle-moves =
         either-told CycleMoves (isGoodReading (n .kept) t)
         (λ e.
         either-told CycleMoves (isRoomFor n (length out))
         (λ room.
-        rw (found room)
+        rw (given-here n t out room)
         (goes-moves i below t g places (n .round % places) 0 (n .«syncs_per_cycle») (n .domains) (n .round) l
         (omega arith)
         (all-later (n .kept) t (n .domains) (good-reading (n .kept) t e .0)

@@ -71,7 +71,7 @@ use Rattle.node.specs.New.{newAs}
 use Rattle.node.specs.declared.cycles.NodeCycle.{NodeCycle}
 use Rattle.node.specs.Cycle.{isRoomFor}
 use Rattle.node.specs.Frame.{addressedBy}
-use Rattle.node_call.specs.Calls.{Call, frame, read, set, cycle, confirm, nodeAfter, numbered, answerTo}
+use Rattle.node_call.specs.Calls.{Call, frame, read, set, cycle, confirm, readingOf, nodeAfter, numbered, answerTo}
 use Rattle.node_laws.specs.Good.{Good}
 use Rattle.node_laws.proofs.Fresh.{new-good}
 use Rattle.node_laws.proofs.Reachable.{call-good}
@@ -83,7 +83,6 @@ use Rattle.history.specs.History.{
   atMaster,
   atSlave,
   History,
-  readingOf,
   slaveAfter,
   slaveRecord,
   isRead,

@@ -35,7 +35,7 @@ use Rattle.master_confirm.specs.Confirm.{followedOf}
 use Rattle.master_follow.specs.Follow.{wholeOf, ovsOf}
 use Rattle.master_follow.proofs.Laws.{OpenFor}
 use Rattle.node.specs.Frame.{addressedBy}
-use Rattle.node_call.specs.Calls.{answerTo}
+use Rattle.node_call.specs.Calls.{readingOf, answerTo, givenBy}
 use Rattle.node_laws.specs.Good.{Good as Known}
 use Rattle.node_laws.proofs.Fresh.{new-good}
 use Rattle.node_laws.proofs.Reachable.{call-good}
@@ -46,10 +46,8 @@ use Rattle.history.specs.History.{
   atMaster,
   atSlave,
   History,
-  readingOf,
   masterAfter,
   masterRecord,
-  givenBy,
   Sent,
   timeIn,
   noted,

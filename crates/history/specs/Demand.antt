@@ -22,7 +22,7 @@ use Rattle.settings.specs.declared.domain_settings.Security.the-variants.{Plain
 use Rattle.settings.specs.declared.node_settings.Verdict.the-variants.{Good}
 use Rattle.settings.specs.Node.{places, judgedOf}
 use Rattle.domain.specs.Updates.{nextUpdate}
-use Rattle.node_call.specs.Calls.{Call, frame, numbered, answerTo}
+use Rattle.node_call.specs.Calls.{Call, frame, readingOf, numbered, answerTo}
 use Rattle.node_laws.specs.Reachable.{IsCall, IsSettings}
 use Rattle.history.specs.History.{
   Link,
@@ -34,7 +34,6 @@ use Rattle.history.specs.History.{
   atMaster,
   atSlave,
   History,
-  readingOf,
   slaveAfter,
   slaveRecord,
   Sent,

@@ -5,13 +5,13 @@
 --   slave                         frame: SYNC 0                     frame: FUP 0   read
 --   scale    0     0              60              100               200            300 ms
 -- Assumes nothing.
-use Prim.Native.Nat.{ℕ, zero, suc, _+_}
+use Prim.Native.Nat.{ℕ, _+_}
 use mathlib.Core.Path.{_≡_}
 use mathlib.Core.Bool.{Bool, false, cond, _&&_, _||_}
 use mathlib.Core.Logic.{_⊎_}
 use mathlib.Core.List.{List, [], _∷_, _++_}
 use lib.Dec.{eqb}
-use lib.ListN.{getD, take, drop}
+use lib.ListN.{getD}
 use Rattle.clock.specs.declared.reading.VirtualLocalTime.{VirtualLocalTime}
 use Rattle.clock.specs.declared.time.GlobalTime.{GlobalTime}
 use Rattle.clock.specs.declared.base.Held.{Held}
@@ -38,13 +38,10 @@ use Rattle.node_call.specs.Calls.{
   set,
   cycle,
   confirm,
+  readingOf,
   nodeAfter,
-  Answer,
-  numbered,
-  shows,
-  sends,
-  follows,
   answerTo,
+  givenBy,
 }
 
 -- ---- what stands in a list
@@ -82,13 +79,6 @@ pub data Event : Type 0 where
 abbrev pub History : Type 0
 History = List Event
 
-abbrev pub readingOf : Call → VirtualLocalTime
-readingOf (frame t bytes) = t
-readingOf (read domain t) = t
-readingOf (set domain t s ns) = t
-readingOf (cycle t out) = t
-readingOf (confirm domain t counter out) = t
-
 -- ---- The nodes after it, both fresh before: "neither set up again".
 abbrev pub masterAfter : Link → History → Node
 masterAfter k [] = newOf (k .master) .node
@@ -105,17 +95,6 @@ masterRecord k h = recordAt (masterAfter k h .domains) (k .domain)
 
 abbrev pub slaveRecord : Link → History → Domain
 slaveRecord k h = recordAt (slaveAfter k h .domains) (k .domain)
-
--- ---- The frames that a call gives, as bytes: so many of 8 from a main cycle, one from a confirmation.
-abbrev pub eights : (count : ℕ) → List ℕ → List (List ℕ)
-eights zero out = []
-eights (suc count) out = take 8 out ∷ eights count (drop 8 out)
-
-abbrev pub givenBy : Answer → List (List ℕ)
-givenBy (numbered number) = []
-givenBy (shows number shown) = []
-givenBy (sends number count out) = eights count out
-givenBy (follows number out) = cond (eqb number 0) (take 8 out ∷ []) []
 
 -- ---- "A frame is sent at the reading of the call that gives it": its bytes, that reading, and the master's
 -- time in the domain at it, which is a SYNC's whole time.

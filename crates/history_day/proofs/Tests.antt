@@ -28,6 +28,7 @@ use Rattle.clock.specs.declared.base.Held.the-variants.{Unset, Set}
 use Rattle.clock.specs.declared.time.GlobalTime.{GlobalTime}
 use Rattle.clock.specs.Reading.{isReading, spanOf}
 use Rattle.clock.specs.Time.{advanced}
+use Rattle.node_call.specs.Calls.{readingOf}
 use Rattle.node_laws.proofs.Witness.{isCall, is-call}
 use Rattle.settings.specs.declared.domain_settings.Role.the-variants.{Slave, Master}
 use Rattle.settings.specs.declared.node_settings.Verdict.the-variants.{Good}
@@ -44,7 +45,6 @@ use Rattle.history.specs.History.{
   atMaster,
   atSlave,
   History,
-  readingOf,
   Sent,
   sentIn,
   Heard,

@@ -1,8 +1,10 @@
 -- Paper 01: the calls of a node, with their arguments as the calls take them, and what each answers.
 -- Assumes nothing.
-use Prim.Native.Nat.{ℕ}
+use Prim.Native.Nat.{ℕ, zero, suc}
+use mathlib.Core.Bool.{cond}
 use mathlib.Core.List.{List, [], _∷_}
-use lib.ListN.{length}
+use lib.Dec.{eqb}
+use lib.ListN.{length, take, drop}
 use Rattle.clock.specs.declared.reading.VirtualLocalTime.{VirtualLocalTime}
 use Rattle.slave_answer.specs.Answer.{frameNumber}
 use Rattle.master_set.specs.Set.{setNumber}
@@ -26,6 +28,14 @@ pub data Call : Type 0 where
   set : (domain : ℕ) (t : VirtualLocalTime) (seconds nanoseconds : ℕ) → Call
   cycle : (t : VirtualLocalTime) (out : List ℕ) → Call
   confirm : (domain : ℕ) (t : VirtualLocalTime) (counter : ℕ) (out : List ℕ) → Call
+
+-- ---- Its reading.
+abbrev pub readingOf : Call → VirtualLocalTime
+readingOf (frame t bytes) = t
+readingOf (read domain t) = t
+readingOf (set domain t s ns) = t
+readingOf (cycle t out) = t
+readingOf (confirm domain t counter out) = t
 
 -- ---- The node after it.
 abbrev pub nodeAfter : Node → Call → Node
@@ -114,3 +124,14 @@ countIn (numbered number) = 0
 countIn (shows number shown) = 0
 countIn (sends number count out) = count
 countIn (follows number out) = 0
+
+-- ---- The frames that a call gives, as bytes: so many of 8 from a main cycle, one from a confirmation.
+abbrev pub eights : (count : ℕ) → List ℕ → List (List ℕ)
+eights zero out = []
+eights (suc count) out = take 8 out ∷ eights count (drop 8 out)
+
+abbrev pub givenBy : Answer → List (List ℕ)
+givenBy (numbered number) = []
+givenBy (shows number shown) = []
+givenBy (sends number count out) = eights count out
+givenBy (follows number out) = cond (eqb number 0) (take 8 out ∷ []) []

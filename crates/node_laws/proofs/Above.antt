@@ -14,10 +14,10 @@ use Rattle.admission.specs.declared.Needed.the-variants.{Master, Either}
 use Rattle.admission.specs.Admission.{isIn}
 use Rattle.domain.specs.Records.{recordAt}
 use Rattle.node.specs.declared.Node.{Node}
-use Rattle.node_call.specs.Calls.{Call, frame, read, set, cycle, confirm, answerTo, numberIn}
+use Rattle.node_call.specs.Calls.{Call, frame, read, set, cycle, confirm, readingOf, answerTo, numberIn}
 use Rattle.node_laws.specs.Reachable.{Reachable}
 use Rattle.node_laws.specs.Tests.{Tests, firstOf, badReading, notFor, testsOf}
-use Rattle.node_laws.specs.Apart.{readingIn, AsksAbove}
+use Rattle.node_laws.specs.Apart.{AsksAbove}
 use Rattle.node_laws.proofs.Reachable.{record-good}
 use Rattle.node_laws.proofs.Order.{order}
 
@@ -39,7 +39,7 @@ module _ (n : Node) (r : Reachable n) where
       (ne-eqb domain (d .number) (λ e. omega (arith, e, own, h)))
 
   pub domain-above :
-      (c : Call) → AsksAbove c → numberIn (answerTo n c) ≡ cond (badReading n (readingIn c)) 1 4
+      (c : Call) → AsksAbove c → numberIn (answerTo n c) ≡ cond (badReading n (readingOf c)) 1 4
   domain-above (frame t bytes) h = absurd h
   domain-above (read domain t) h =
       let c = read domain t in

@@ -3,22 +3,28 @@
 --   round-each     what holds of the frame of each record that sends holds of each frame of the round
 --   pasted-whole   they are written one after another, and the bytes beyond them stay
 --   cycle-whole    a main cycle that is not refused counts and writes them so
+--   addressed      a frame names the domain of its values
+--   given-here     the frames that are cut from the buffer are those of the round
+--   cycle-given    so are those that a main cycle gives that is not refused
 -- Assumes nothing.
 use Prim.Native.Nat.{ℕ, zero, suc, _+_, _*_, _≤_, _<_, min}
 use mathlib.Core.Path.{_≡_, refl, sym, ap, _∙_}
 use mathlib.Core.Bool.{Bool, true, false, cond}
 use mathlib.Core.List.{List, [], _∷_, _++_, append-assoc, flatMap}
 use native.Mathlib.Omega.{arith}
-use lib.ListN.{length, drop, length-append, length-drop}
-use lib.Seq.{drop-append-add, drop-drop, take-at}
+use lib.ListN.{length, take, drop, length-append, length-drop}
+use lib.Seq.{drop-append-add, drop-drop, take-at, drop-at}
 use borrow.Author.Tests.{leb-true, le-leb}
-use Rattle.promise.proofs.Tests.{either}
+use Rattle.promise.proofs.Tests.{either, either-told}
 use Rattle.clock.specs.declared.reading.VirtualLocalTime.{VirtualLocalTime}
 use Rattle.frame.specs.declared.data_ids.DataIds.{DataIds}
 use Rattle.frame.specs.declared.values.Sync.{Sync}
+use Rattle.frame.specs.declared.values.Frame.{Frame}
 use Rattle.frame.specs.declared.values.Frame.the-variants.{Sync as sync}
+use Rattle.frame.specs.Values.{domainIn}
 use Rattle.frame_write.specs.Write.{bytesOf}
 use Rattle.frame_write.proofs.Laws.{bytes-length}
+use Rattle.frame_laws.proofs.Laws.{named-back}
 use Rattle.refusal.specs.declared.Refusal.the-variants.{NoRoom}
 use Rattle.admission.specs.Reading.{isGoodReading}
 use Rattle.domain.specs.declared.Domain.{Domain}
@@ -33,9 +39,10 @@ use Rattle.round.proofs.Walk.{sumBelow}
 use Rattle.round.proofs.FirstDue.{round-frames, round-count, served-below}
 use Rattle.node.specs.declared.Node.{Node}
 use Rattle.node.specs.declared.cycles.NodeCycle.{NodeCycle}
+use Rattle.node.specs.Frame.{addressedBy}
 use Rattle.node.specs.CycleAnswer.{cycleNumber, cycleCount}
 use Rattle.node.specs.Cycle.{isRoomFor, goneFrom, cycledBy, cycleRefused, cycleBytes}
-use Rattle.node_call.specs.Calls.{sends}
+use Rattle.node_call.specs.Calls.{cycle, sends, answerTo, numberIn, eights, givenBy}
 use Rattle.node_laws.specs.Due.{dueOne, dueBelow, dueCount}
 use Rattle.node_laws.specs.Back.{joined, IsEight, OfSent}
 use Rattle.node_laws.specs.Demands.{SyncsStand}
@@ -103,6 +110,23 @@ pub pasted-whole :
     pasted 0 frames out ≡ joined frames ++ drop (8 * length frames) out
 pasted-whole frames out each h = pasted-on 0 frames [] out refl each h
 
+-- ---- found again: a frame names its domain, and frames of 8 bytes are cut from what they were written into
+
+pub addressed : (ids : DataIds) (f : Frame) → domainIn f < places → addressedBy (bytesOf ids f) ≡ domainIn f
+addressed ids f h = omega (arith, named-back ids f h)
+
+eights-back :
+    (frames : List (List ℕ)) (rest : List ℕ) → Each IsEight frames →
+    eights (length frames) (joined frames ++ rest) ≡ frames
+eights-back [] rest each = refl
+eights-back (f ∷ fs) rest each =
+    let split = append-assoc f (joined fs) rest in
+    λ i. (ap (take 8) split ∙ take-at f (joined fs ++ rest) 8 (each .0)) i
+    ∷ (ap (λ (l : List ℕ). eights (length fs) (drop 8 l)) split
+    ∙ ap (eights (length fs)) (drop-at f (joined fs ++ rest) 8 (each .0))
+    ∙ eights-back fs rest (each .1))
+    i
+
 -- ---- the main cycle
 
 module _ (n : Node) (t : VirtualLocalTime) (out : List ℕ) where
@@ -121,21 +145,39 @@ module _ (n : Node) (t : VirtualLocalTime) (out : List ℕ) where
   counted : length sent ≡ count
   counted = due-count (n .«syncs_per_cycle») t (n .domains) (n .round)
 
-  eights : Each IsEight sent
-  eights =
+  all-eight : Each IsEight sent
+  all-eight =
       round-each IsEight (n .«syncs_per_cycle») t (n .domains)
       (λ i h s e. bytes-length (recordAt (n .domains) i .settings .ids) (sync s)) (n .round)
+
+  fits : isRoomFor n (length out) ≡ true → 8 * length sent ≤ length out
+  fits room = omega (arith, leb-true (8 * n .«syncs_per_cycle») (length out) room, counted)
+
+  stand : isRoomFor n (length out) ≡ true → pasted 0 sent out ≡ joined sent ++ drop (8 * length sent) out
+  stand room = pasted-whole sent out all-eight (fits room)
 
   whole :
       (room : Bool) → isRoomFor n (length out) ≡ room →
       Whole (cond room (cycledBy n t (goneFrom n t)) (cycleRefused n NoRoom))
   whole false e = λ z. absurd (omega arith)
   whole true e =
-      let room = leb-true (8 * n .«syncs_per_cycle») (length out) e in
-      let fits : 8 * length sent ≤ length out = omega (arith, counted) in
-      λ z i. sends 0 (counted i)
-      ((pasted-whole sent out eights fits ∙ ap (λ (k : ℕ). joined sent ++ drop (8 * k) out) counted) i)
+      λ z i. sends 0 (counted i) ((stand e ∙ ap (λ (k : ℕ). joined sent ++ drop (8 * k) out) counted) i)
 
   pub cycle-whole : SyncsStand n t out
   cycle-whole =
       either Whole (isGoodReading (n .kept) t) (whole (isRoomFor n (length out)) refl) (λ z. absurd (omega arith))
+
+  pub given-here : isRoomFor n (length out) ≡ true → eights (length sent) (pasted 0 sent out) ≡ sent
+  given-here room =
+      ap (eights (length sent)) (stand room) ∙ eights-back sent (drop (8 * length sent) out) all-eight
+
+  abbrev Given : NodeCycle → Type 0
+  Given r =
+      cycleNumber (r .answer) ≡ 0 → eights (cycleCount (r .answer)) (cycleBytes (r .answer) n t out) ≡ sent
+
+  pub cycle-given :
+      numberIn (answerTo n (cycle t out)) ≡ 0 → givenBy (answerTo n (cycle t out)) ≡ goneFrom n t .frames
+  cycle-given =
+      either Given (isGoodReading (n .kept) t)
+      (either-told Given (isRoomFor n (length out)) (λ room z. given-here room) (λ none z. absurd (omega arith)))
+      (λ z. absurd (omega arith))

@@ -96,7 +96,7 @@ after-one n k (confirm domain t counter out) i o p q =
 
 -- ---- calls in any order
 
-pub own-is : (c : Call) (i : ℕ) → isOwn c i ≡ true → Own c i
+own-is : (c : Call) (i : ℕ) → isOwn c i ≡ true → Own c i
 own-is (frame t bytes) i e = eqb-true (addressedBy bytes) i e
 own-is (read domain t) i e = eqb-true (domain % places) i e
 own-is (set domain t s ns) i e = eqb-true (domain % places) i e

@@ -14,8 +14,8 @@ pub mod Refused
 pub mod Independent
 pub mod Through
 pub mod Interleaved
-pub mod Roles
 pub mod Stays
+pub mod Roles
 pub mod Cycles
 pub mod ReadBack
 pub mod Accepted

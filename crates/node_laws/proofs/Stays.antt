@@ -1,8 +1,11 @@
--- A base once set stays set. No contract cites this file.
---   base-stays   after a call, refused or not
---   bases-stay   after calls, however many
+-- What every call keeps of every record, refused or not. No contract cites this file.
+--   call-keeps      a relation between a record before and after that each step keeps, every call keeps
+--   base-stays      a base once set stays set, after a call
+--   bases-stay      and after calls, however many
+--   settings-stay   no call changes the settings in a record
 -- Assumes nothing.
-use Prim.Native.Nat.{ℕ, zero, suc, _+_, _%_}
+use Prim.Native.Nat.{ℕ, zero, suc, _%_}
+use mathlib.Core.Path.{refl, _∙_}
 use mathlib.Core.Bool.{Bool}
 use mathlib.Core.List.{List, [], _∷_}
 use lib.Dec.{leb, ltb}
@@ -11,6 +14,8 @@ use Rattle.settings.specs.Node.{places}
 use Rattle.round.specs.Turn.{nextPlace}
 use Rattle.promise.proofs.Tests.{either}
 use Rattle.clock.specs.declared.reading.VirtualLocalTime.{VirtualLocalTime}
+use Rattle.clock.specs.declared.time.GlobalTime.{GlobalTime}
+use Rattle.frame.specs.declared.values.Sync.{Sync}
 use Rattle.frame.specs.declared.values.Fup.{Fup}
 use Rattle.frame.specs.declared.values.Frame.{Frame}
 use Rattle.frame.specs.declared.values.Frame.the-variants.{Sync as sync, Fup as fup}
@@ -24,18 +29,23 @@ use Rattle.admission.specs.declared.frames.FrameAdmission.{FrameAdmission}
 use Rattle.admission.specs.declared.frames.FrameAdmission.the-variants.{Admitted as admitted, Refused as refused}
 use Rattle.admission.specs.FrameAdmission.{frameAdmitted}
 use Rattle.domain.specs.declared.Domain.{Domain}
+use Rattle.domain.specs.declared.Pair.{Pair}
+use Rattle.domain.specs.declared.Leap.{Leap}
+use Rattle.domain.specs.declared.Sending.the-variants.{Confirmed}
+use Rattle.domain.specs.Fields.{withSending}
 use Rattle.slave_pair.specs.declared.joining.Joined.{Joined}
 use Rattle.slave_pair.specs.declared.joining.Joined.the-variants.{With, Refused as not-joined}
 use Rattle.slave_pair.specs.Join.{joinedOf}
 use Rattle.slave_answer.specs.declared.FrameStep.{FrameStep}
-use Rattle.slave_sync.specs.Sync.{takesSync}
-use Rattle.slave_fup.specs.Fup.{fupAs}
+use Rattle.slave_sync.specs.Sync.{withPair, takesSync}
+use Rattle.slave_fup.specs.Fup.{updatedOf, fupAs}
 use Rattle.slave_frame.specs.Step.{kindOf}
 use Rattle.master_rules.specs.declared.due.Due.{Due}
 use Rattle.master_rules.specs.declared.due.Due.the-variants.{At, No}
 use Rattle.master_set.specs.declared.SetStep.{SetStep}
+use Rattle.master_set.specs.Set.{withTime}
 use Rattle.master_send.specs.declared.SendStep.{SendStep}
-use Rattle.master_send.specs.Send.{dueIn, sendAs}
+use Rattle.master_send.specs.Send.{dueIn, sentOf, sendAs}
 use Rattle.master_follow.specs.declared.Follow.{Follow}
 use Rattle.master_follow.specs.declared.Follow.the-variants.{With as following, Refused as not-following}
 use Rattle.master_follow.specs.Follow.{followOf}
@@ -52,104 +62,147 @@ use Rattle.node.specs.declared.cycles.NodeCycle.{NodeCycle}
 use Rattle.node.specs.Cycle.{isRoomFor}
 use Rattle.node_call.specs.Calls.{Call, frame, read, set, cycle, confirm, nodeAfter, nodeAfterAll}
 use Rattle.node_laws.specs.Good.{BaseStays}
+use Rattle.node_laws.specs.Apart.{SettingsStay}
 
--- ---- a call on one record
+-- ---- A relation between a record before and after: what stays as it was keeps it, and so does each step: a SYNC
+-- accepted, a FUP taken, a set, a SYNC sent, a confirmation.
+pub record Kept (R : (before after : Domain) → Type 0) : Type 0 where
+  pub same : (d : Domain) → R d d
+  pub onward : (a b c : Domain) → R a b → R b c → R a c
+  pub paired : (d : Domain) (t : VirtualLocalTime) (s : Sync) → R d (withPair d t s)
+  pub updated : (d : Domain) (p : Pair) (f : Fup) (leap : Leap) → R d (updatedOf d p f leap)
+  pub timed : (d : Domain) (g : GlobalTime) (t : VirtualLocalTime) → R d (withTime d g t)
+  pub sent :
+      (d : Domain) (seconds nanoseconds : ℕ) (t : VirtualLocalTime) → R d (sentOf d seconds nanoseconds t .domain)
+  pub confirmed : (d : Domain) (at : VirtualLocalTime) → R d (withSending d (Confirmed at))
 
-module _ (d : Domain) (kept t : VirtualLocalTime) where
-  -- ---- a frame
+module _ (R : (before after : Domain) → Type 0) (k : Kept R) where
+  -- ---- a call on one record
 
-  fup-stays : (j : Joined) (f : Fup) → BaseStays d (fupAs j d f .domain)
-  fup-stays (not-joined refusal) f h = h
-  fup-stays (With p) f h = tt
+  module _ (d : Domain) (kept t : VirtualLocalTime) where
+    fup-keeps : (j : Joined) (f : Fup) → R d (fupAs j d f .domain)
+    fup-keeps (not-joined refusal) f = k .same d
+    fup-keeps (With p) f = k .updated d p f _
 
-  kind-stays : (values : Frame) → BaseStays d (kindOf d t values .domain)
-  kind-stays (sync s) = either (λ (r : FrameStep). BaseStays d (r .domain)) (takesSync d t s) (λ h. h) (λ h. h)
-  kind-stays (fup f) = fup-stays (joinedOf (d .settings .«follow_up_time») (d .pairing) t f) f
+    kind-keeps : (values : Frame) → R d (kindOf d t values .domain)
+    kind-keeps (sync s) = either (λ (r : FrameStep). R d (r .domain)) (takesSync d t s) (k .paired d t s) (k .same d)
+    kind-keeps (fup f) = fup-keeps (joinedOf (d .settings .«follow_up_time») (d .pairing) t f) f
 
-  frame-stays : (a : FrameAdmission) (bytes : List ℕ) → BaseStays d (frameCallAs a d kept t bytes .domain)
-  frame-stays (refused refusal) bytes = λ h. h
-  frame-stays (admitted values) bytes =
-      either (λ (r : FrameStep). BaseStays d (r .domain)) (isTaken (d .settings .mode) (d .settings .ids) bytes)
-      (kind-stays values) (λ h. h)
+    frame-keeps : (a : FrameAdmission) (bytes : List ℕ) → R d (frameCallAs a d kept t bytes .domain)
+    frame-keeps (refused refusal) bytes = k .same d
+    frame-keeps (admitted values) bytes =
+        either (λ (r : FrameStep). R d (r .domain)) (isTaken (d .settings .mode) (d .settings .ids) bytes)
+        (kind-keeps values) (k .same d)
 
-  -- ---- a set
+    set-keeps : (a : Admission) (s ns : ℕ) → R d (setCallAs a d kept t s ns .domain)
+    set-keeps (Refused refusal) s ns = k .same d
+    set-keeps Admitted s ns =
+        either (λ (r : SetStep). R d (r .domain)) (leb ns 999999999) (k .timed d _ t) (k .same d)
 
-  set-stays : (a : Admission) (s ns : ℕ) → BaseStays d (setCallAs a d kept t s ns .domain)
-  set-stays (Refused refusal) s ns = λ h. h
-  set-stays Admitted s ns =
-      either (λ (r : SetStep). BaseStays d (r .domain)) (leb ns 999999999) (λ h. tt) (λ h. h)
+    followed-keeps : (f : Follow) (counter : ℕ) → R d (confirmAs f d counter .domain)
+    followed-keeps (following ovs nanoseconds at) counter = k .confirmed d at
+    followed-keeps (not-following refusal) counter = k .same d
 
-  -- ---- a confirmation
+    confirm-keeps :
+        (a : Admission) (counter length : ℕ) → R d (confirmCallAs a d kept t counter length .domain)
+    confirm-keeps (Refused refusal) counter length = k .same d
+    confirm-keeps Admitted counter length =
+        followed-keeps (followOf (d .settings .«confirmation_time») (d .sending) t counter (leb 8 length)) counter
 
-  followed-stays : (f : Follow) (counter : ℕ) → BaseStays d (confirmAs f d counter .domain)
-  followed-stays (following ovs nanoseconds at) counter h = h
-  followed-stays (not-following refusal) counter h = h
+  -- ---- a turn
 
-  confirm-stays :
-      (a : Admission) (counter : ℕ) (out : List ℕ) →
-      BaseStays d (confirmCallAs a d kept t counter (length out) .domain)
-  confirm-stays (Refused refusal) counter out = λ h. h
-  confirm-stays Admitted counter out =
-      followed-stays (followOf (d .settings .«confirmation_time») (d .sending) t counter (leb 8 (length out))) counter
+  send-keeps : (due : Due) (d : Domain) (t : VirtualLocalTime) → R d (sendAs due d t .domain)
+  send-keeps (At seconds nanoseconds) d t = k .sent d seconds nanoseconds t
+  send-keeps No d t = k .same d
 
--- ---- a turn
+  turn-keeps : (may : Bool) (d : Domain) (t : VirtualLocalTime) → R d (turnOf may d t .domain)
+  turn-keeps may d t = either (λ (r : SendStep). R d (r .domain)) may (send-keeps (dueIn d t) d t) (k .same d)
 
-send-stays : (due : Due) (d : Domain) (t : VirtualLocalTime) → BaseStays d (sendAs due d t .domain)
-send-stays (At seconds nanoseconds) d t h = h
-send-stays No d t h = h
+  -- ---- a record stored at a place; beyond the records, nothing is
 
-turn-stays : (may : Bool) (d : Domain) (t : VirtualLocalTime) → BaseStays d (turnOf may d t .domain)
-turn-stays may d t = either (λ (r : SendStep). BaseStays d (r .domain)) may (send-stays (dueIn d t) d t) (λ h. h)
+  put-keeps :
+      (ds : List Domain) (i at : ℕ) (d : Domain) → R (recordAt ds at) d →
+      R (recordAt ds i) (recordAt (put ds at d) i)
+  put-keeps [] i at d s = k .same _
+  put-keeps (x ∷ rest) zero zero d s = s
+  put-keeps (x ∷ rest) zero (suc at) d s = k .same x
+  put-keeps (x ∷ rest) (suc i) zero d s = k .same _
+  put-keeps (x ∷ rest) (suc i) (suc at) d s = put-keeps rest i at d s
 
--- ---- a record stored at a place; beyond the records, nothing is
+  -- ---- a round
 
-put-stays :
-    (ds : List Domain) (i at : ℕ) (d : Domain) → BaseStays (recordAt ds at) d →
-    BaseStays (recordAt ds i) (recordAt (put ds at d) i)
-put-stays [] i at d s h = h
-put-stays (x ∷ rest) zero zero d s h = s h
-put-stays (x ∷ rest) zero (suc at) d s h = h
-put-stays (x ∷ rest) (suc i) zero d s h = h
-put-stays (x ∷ rest) (suc i) (suc at) d s h = put-stays rest i at d s h
+  goes-keeps :
+      (turns at sent most : ℕ) (t : VirtualLocalTime) (ds : List Domain) (next i : ℕ) →
+      R (recordAt ds i) (recordAt (goes turns at sent most t ds next .domains) i)
+  unfolding goes
+  goes-keeps zero at sent most t ds next i = k .same _
+  goes-keeps (suc turns) at sent most t ds next i =
+      let s = turnOf (ltb sent most) (recordAt ds at) t in
+      k .onward _ _ _
+      (put-keeps ds i at (s .domain) (turn-keeps (ltb sent most) (recordAt ds at) t))
+      (goes-keeps turns (nextPlace places at) (sentAfter (s .answer) sent) most t (put ds at (s .domain))
+      (nextAfter (s .answer) at next) i)
 
--- ---- a round
+  -- ---- a call
 
-goes-stays :
-    (k at sent most : ℕ) (t : VirtualLocalTime) (ds : List Domain) (next i : ℕ) →
-    BaseStays (recordAt ds i) (recordAt (goes k at sent most t ds next .domains) i)
-unfolding goes
-goes-stays zero at sent most t ds next i h = h
-goes-stays (suc k) at sent most t ds next i h =
-    let s = turnOf (ltb sent most) (recordAt ds at) t in
-    goes-stays k (nextPlace places at) (sentAfter (s .answer) sent) most t (put ds at (s .domain))
-    (nextAfter (s .answer) at next) i
-    (put-stays ds i at (s .domain) (turn-stays (ltb sent most) (recordAt ds at) t) h)
+  pub call-keeps : (n : Node) (c : Call) (i : ℕ) → R (recordAt (n .domains) i) (recordAt (nodeAfter n c .domains) i)
+  call-keeps n (frame t bytes) i =
+      let d = recordAt (n .domains) (addressedBy bytes) in
+      put-keeps (n .domains) i (addressedBy bytes) _
+      (frame-keeps d (n .kept) t (frameAdmitted (n .kept) t (d .number) (d .settings .role) bytes) bytes)
+  call-keeps n (read domain t) i = k .same _
+  call-keeps n (set domain t s ns) i =
+      let d = recordAt (n .domains) (domain % places) in
+      put-keeps (n .domains) i (domain % places) _
+      (set-keeps d (n .kept) t (admittedOf (n .kept) t (d .number) (d .settings .role) domain Master) s ns)
+  call-keeps n (cycle t out) i =
+      let P : NodeCycle → Type 0 = λ r. R (recordAt (n .domains) i) (recordAt (r .node .domains) i) in
+      either P (isGoodReading (n .kept) t)
+      (either P (isRoomFor n (length out))
+      (goes-keeps places (n .round % places) 0 (n .«syncs_per_cycle») t (n .domains) (n .round) i) (k .same _))
+      (k .same _)
+  call-keeps n (confirm domain t counter out) i =
+      let d = recordAt (n .domains) (domain % places) in
+      let admission = admittedOf (n .kept) t (d .number) (d .settings .role) domain Master in
+      put-keeps (n .domains) i (domain % places) _ (confirm-keeps d (n .kept) t admission counter (length out))
 
--- ---- a call
+-- ---- a base once set stays set
+
+base-kept : Kept BaseStays
+base-kept =
+    record {
+      same = λ d h. h;
+      onward = λ a b c p q h. q (p h);
+      paired = λ d t s h. h;
+      updated = λ d p f leap h. tt;
+      timed = λ d g t h. tt;
+      sent = λ d seconds nanoseconds t h. h;
+      confirmed = λ d at h. h;
+    }
 
 pub base-stays :
     (n : Node) (c : Call) (i : ℕ) → BaseStays (recordAt (n .domains) i) (recordAt (nodeAfter n c .domains) i)
-base-stays n (frame t bytes) i =
-    let d = recordAt (n .domains) (addressedBy bytes) in
-    put-stays (n .domains) i (addressedBy bytes) _
-    (frame-stays d (n .kept) t (frameAdmitted (n .kept) t (d .number) (d .settings .role) bytes) bytes)
-base-stays n (read domain t) i = λ h. h
-base-stays n (set domain t s ns) i =
-    let d = recordAt (n .domains) (domain % places) in
-    put-stays (n .domains) i (domain % places) _
-    (set-stays d (n .kept) t (admittedOf (n .kept) t (d .number) (d .settings .role) domain Master) s ns)
-base-stays n (cycle t out) i =
-    let P : NodeCycle → Type 0 = λ r. BaseStays (recordAt (n .domains) i) (recordAt (r .node .domains) i) in
-    either P (isGoodReading (n .kept) t)
-    (either P (isRoomFor n (length out))
-    (goes-stays places (n .round % places) 0 (n .«syncs_per_cycle») t (n .domains) (n .round) i) (λ h. h))
-    (λ h. h)
-base-stays n (confirm domain t counter out) i =
-    let d = recordAt (n .domains) (domain % places) in
-    put-stays (n .domains) i (domain % places) _
-    (confirm-stays d (n .kept) t (admittedOf (n .kept) t (d .number) (d .settings .role) domain Master) counter out)
+base-stays = call-keeps BaseStays base-kept
 
 pub bases-stay :
     (n : Node) (cs : List Call) (i : ℕ) → BaseStays (recordAt (n .domains) i) (recordAt (nodeAfterAll n cs .domains) i)
 bases-stay n [] i h = h
 bases-stay n (c ∷ rest) i h = bases-stay (nodeAfter n c) rest i (base-stays n c i h)
+
+-- ---- settings
+
+settings-kept : Kept SettingsStay
+settings-kept =
+    record {
+      same = λ d. refl;
+      onward = λ a b c p q. q ∙ p;
+      paired = λ d t s. refl;
+      updated = λ d p f leap. refl;
+      timed = λ d g t. refl;
+      sent = λ d seconds nanoseconds t. refl;
+      confirmed = λ d at. refl;
+    }
+
+pub settings-stay :
+    (n : Node) (c : Call) (i : ℕ) → SettingsStay (recordAt (n .domains) i) (recordAt (nodeAfter n c .domains) i)
+settings-stay = call-keeps SettingsStay settings-kept

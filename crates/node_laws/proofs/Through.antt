@@ -51,6 +51,7 @@ use Rattle.node_call.specs.Calls.{
   set,
   cycle,
   confirm,
+  readingOf,
   nodeAfter,
   nodeAfterAll,
   Answer,
@@ -59,7 +60,7 @@ use Rattle.node_call.specs.Calls.{
   follows,
   answerTo,
 }
-use Rattle.node_laws.specs.Apart.{Own, AllElsewhere, keeping, readingIn, Timely, OwnSent}
+use Rattle.node_laws.specs.Apart.{Own, AllElsewhere, keeping, Timely, OwnSent}
 use Rattle.node_laws.proofs.Independent.{independent}
 
 -- ---- an admitted call does not look at the kept reading
@@ -104,8 +105,8 @@ abbrev pub forMaster : Domain → (asked : ℕ) → Admission
 forMaster d asked = cond (isFor (d .number) (d .settings .role) asked Master) Admitted (Refused not-for)
 
 same-answer :
-    (n : Node) (k : VirtualLocalTime) (c : Call) → isGoodReading (n .kept) (readingIn c) ≡ true →
-    isGoodReading k (readingIn c) ≡ true → answerTo (keeping n k) c ≡ answerTo n c
+    (n : Node) (k : VirtualLocalTime) (c : Call) → isGoodReading (n .kept) (readingOf c) ≡ true →
+    isGoodReading k (readingOf c) ≡ true → answerTo (keeping n k) c ≡ answerTo n c
 same-answer n k (frame t bytes) p q =
     let d = recordAt (n .domains) (addressedBy bytes) in
     let admission = readFor (readOf bytes) (d .number) (d .settings .role) in

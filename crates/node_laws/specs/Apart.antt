@@ -22,6 +22,7 @@ use Rattle.node_call.specs.Calls.{
   set,
   cycle,
   confirm,
+  readingOf,
   nodeAfter,
   Answer,
   answerTo,
@@ -59,16 +60,9 @@ keeping n kept =
       round = n .round;
     }
 
--- ---- The reading of a call; it is good: number 1 is not given.
-abbrev pub readingIn : Call → VirtualLocalTime
-readingIn (frame t bytes) = t
-readingIn (read domain t) = t
-readingIn (set domain t s ns) = t
-readingIn (cycle t out) = t
-readingIn (confirm domain t counter out) = t
-
+-- ---- The reading of a call is good: number 1 is not given.
 abbrev pub Timely : Node → Call → Type 0
-Timely n c = isGoodReading (n .kept) (readingIn c) ≡ true
+Timely n c = isGoodReading (n .kept) (readingOf c) ≡ true
 
 -- ---- The call asks for a "domain above 15"; a frame names one of four bits.
 abbrev pub AsksAbove : Call → Type 0
@@ -96,8 +90,8 @@ ownAnswers n [] i = []
 ownAnswers n (c ∷ rest) i =
     let later = ownAnswers (nodeAfter n c) rest i in cond (isOwn c i) (answerTo n c ∷ later) later
 
--- ---- A call for a domain leaves the settings in its record; a main cycle leaves a record as it was, or as the SYNC
--- makes it that the record itself sends.
+-- ---- A call leaves the settings in a record; a main cycle leaves a record as it was, or as the SYNC makes it that the
+-- record itself sends.
 abbrev pub SettingsStay : (before after : Domain) → Type 0
 SettingsStay before after = after .settings ≡ before .settings
 
