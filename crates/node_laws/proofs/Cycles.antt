@@ -1,4 +1,5 @@
 -- Laws of the main cycle's round. No contract cites this file.
+--   count-sum      places of which a test holds, counted as a sum
 --   due-count      the number of frames of a round is that of the due domains, at most S
 --   round-each     what holds of the frame of each record that sends holds of each frame of the round
 --   pasted-whole   they are written one after another, and the bytes beyond them stay
@@ -43,22 +44,21 @@ use Rattle.node.specs.Frame.{addressedBy}
 use Rattle.node.specs.CycleAnswer.{cycleNumber, cycleCount}
 use Rattle.node.specs.Cycle.{isRoomFor, goneFrom, cycledBy, cycleRefused, cycleBytes}
 use Rattle.node_call.specs.Calls.{cycle, sends, answerTo, numberIn, eights, givenBy}
-use Rattle.node_laws.specs.Due.{dueOne, dueBelow, dueCount}
+use Rattle.node_laws.specs.Due.{countBelow, dueCount}
 use Rattle.node_laws.specs.Back.{joined, IsEight, OfSent}
 use Rattle.node_laws.specs.Demands.{SyncsStand}
 
 -- ---- how many there are
 
-below-is :
-    (ds : List Domain) (t : VirtualLocalTime) (k : ℕ) →
-    sumBelow (λ (p : ℕ). cond (isDue (recordAt ds p) t) 1 0) k ≡ dueBelow k ds t
-below-is ds t zero = refl
-below-is ds t (suc k) = ap (λ (n : ℕ). n + dueOne (recordAt ds k) t) (below-is ds t k)
+pub count-sum : (test : ℕ → Bool) (k : ℕ) → sumBelow (λ (p : ℕ). cond (test p) 1 0) k ≡ countBelow test k
+count-sum test zero = refl
+count-sum test (suc k) = ap (λ (n : ℕ). n + cond (test k) 1 0) (count-sum test k)
 
 pub due-count :
     (most : ℕ) (t : VirtualLocalTime) (ds : List Domain) (first : ℕ) →
     length (roundOf ds first t most .frames) ≡ min most (dueCount ds t)
-due-count most t ds first = round-count ds first t most ∙ ap (min most) (below-is ds t places)
+due-count most t ds first =
+    round-count ds first t most ∙ ap (min most) (count-sum (λ (p : ℕ). isDue (recordAt ds p) t) places)
 
 -- ---- what holds of each frame of a round
 

@@ -3,9 +3,10 @@
 --   base-stays      a base once set stays set, after a call
 --   bases-stay      and after calls, however many
 --   settings-stay   no call changes the settings in a record
+--   syncs-stay      nor S
 -- Assumes nothing.
 use Prim.Native.Nat.{ℕ, zero, suc, _%_}
-use mathlib.Core.Path.{refl, _∙_}
+use mathlib.Core.Path.{_≡_, refl, _∙_}
 use mathlib.Core.Bool.{Bool}
 use mathlib.Core.List.{List, [], _∷_}
 use lib.Dec.{leb, ltb}
@@ -206,3 +207,14 @@ settings-kept =
 pub settings-stay :
     (n : Node) (c : Call) (i : ℕ) → SettingsStay (recordAt (n .domains) i) (recordAt (nodeAfter n c .domains) i)
 settings-stay = call-keeps SettingsStay settings-kept
+
+-- ---- S
+
+pub syncs-stay : (n : Node) (c : Call) → nodeAfter n c .«syncs_per_cycle» ≡ n .«syncs_per_cycle»
+syncs-stay n (frame t bytes) = refl
+syncs-stay n (read domain t) = refl
+syncs-stay n (set domain t s ns) = refl
+syncs-stay n (cycle t out) =
+    let P : NodeCycle → Type 0 = λ r. r .node .«syncs_per_cycle» ≡ n .«syncs_per_cycle» in
+    either P (isGoodReading (n .kept) t) (either P (isRoomFor n (length out)) refl refl) refl
+syncs-stay n (confirm domain t counter out) = refl

@@ -2,6 +2,7 @@
 -- reachable, its slave holds a received time, and its master has sent and confirmed; another master's FUP has
 -- the greatest OVS. No contract cites this file.
 --   is-call        a call that passes the test has arguments as their types say
+--   are-calls      and so have calls one after another
 --   reaches        calls one after another lead from a reachable node to a reachable one
 --   bench-reached  the node after the seven calls of P1 to P7 is reachable
 --   bench-slave    its domain 1 is a slave
@@ -55,7 +56,7 @@ isCall (set domain t seconds nanoseconds) = ltb seconds 4294967296
 isCall (cycle t out) = true
 isCall (confirm domain t counter out) = true
 
-abbrev areCalls : List Call → Bool
+abbrev pub areCalls : List Call → Bool
 areCalls [] = true
 areCalls (c ∷ rest) = isCall c && areCalls rest
 
@@ -66,7 +67,7 @@ is-call (set domain t seconds nanoseconds) e = ltb-true _ _ e
 is-call (cycle t out) e = tt
 is-call (confirm domain t counter out) e = tt
 
-are-calls : (cs : List Call) → areCalls cs ≡ true → AreCalls cs
+pub are-calls : (cs : List Call) → areCalls cs ≡ true → AreCalls cs
 are-calls [] e = tt
 are-calls (c ∷ rest) e =
     let told = both (isCall c) (areCalls rest) e in (is-call c (told .0), are-calls rest (told .1))

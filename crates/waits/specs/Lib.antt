@@ -1,0 +1,2 @@
+-- The definitions of `waits`.
+pub mod Waits
