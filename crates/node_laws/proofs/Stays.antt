@@ -173,7 +173,7 @@ base-kept : Kept BaseStays
 base-kept =
     record {
       same = λ d h. h;
-      onward = λ a b c p q h. q (p h);
+      onward = λ a b c p q h. search;
       paired = λ d t s h. h;
       updated = λ d p f leap h. tt;
       timed = λ d g t h. tt;
