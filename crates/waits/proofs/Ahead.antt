@@ -28,27 +28,27 @@ pub ahead-same :
 ahead-same f g x same [] = refl
 ahead-same f g x same (p ∷ ps) = λ i. cond (eqb p x) 0 (same p i + ahead-same f g x same ps i)
 
+-- ---- x stands among the places; behind another it stands among those that are left
+abbrev pub Among : (x : ℕ) → List ℕ → Type 0
+Among x ps = NotIn x ps → ⊥
+
+later : (x p : ℕ) (ps : List ℕ) → eqb p x ≡ false → Among x (p ∷ ps) → Among x ps
+later x p ps e there none = there (eqb-false p x e, none)
+
 module _ (f : ℕ → ℕ) (x : ℕ) where
-  -- x stands among the places
-  abbrev pub There : List ℕ → Type 0
-  There ps = NotIn x ps → ⊥
-
-  later : (p : ℕ) (ps : List ℕ) → eqb p x ≡ false → There (p ∷ ps) → There ps
-  later p ps e there none = there (eqb-false p x e, none)
-
   fewer-if :
-      (p : ℕ) (ps : List ℕ) (here : Bool) → eqb p x ≡ here → 1 ≤ f x → (There ps → ahead f x ps < sumOf f ps) →
-      There (p ∷ ps) → cond here 0 (f p + ahead f x ps) < f p + sumOf f ps
+      (p : ℕ) (ps : List ℕ) (here : Bool) → eqb p x ≡ here → 1 ≤ f x → (Among x ps → ahead f x ps < sumOf f ps) →
+      Among x (p ∷ ps) → cond here 0 (f p + ahead f x ps) < f p + sumOf f ps
   fewer-if p ps true e counts rest there = omega (arith, ap f (eqb-true p x e))
-  fewer-if p ps false e counts rest there = omega (arith, rest (later p ps e there))
+  fewer-if p ps false e counts rest there = omega (arith, rest (later x p ps e there))
 
-  pub ahead-fewer : (ps : List ℕ) → 1 ≤ f x → There ps → ahead f x ps < sumOf f ps
+  pub ahead-fewer : (ps : List ℕ) → 1 ≤ f x → Among x ps → ahead f x ps < sumOf f ps
   ahead-fewer [] counts there = absurd (there tt)
   ahead-fewer (p ∷ ps) counts there = fewer-if p ps (eqb p x) refl counts (ahead-fewer ps counts) there
 
   module _ (n : ℕ) where
     pub ahead-longer :
-        (k m p : ℕ) → k ≤ m → There (walk n k p) → ahead f x (walk n m p) ≡ ahead f x (walk n k p)
+        (k m p : ℕ) → k ≤ m → Among x (walk n k p) → ahead f x (walk n m p) ≡ ahead f x (walk n k p)
     ahead-longer zero m p h there = absurd (there tt)
     ahead-longer (suc k) zero p h there = absurd (omega (arith, h))
     ahead-longer (suc k) (suc m) p h there =
@@ -56,12 +56,12 @@ module _ (f : ℕ → ℕ) (x : ℕ) where
       where
         go :
             (here : Bool) → eqb p x ≡ here →
-            (There (walk n k (nextPlace n p)) →
+            (Among x (walk n k (nextPlace n p)) →
             ahead f x (walk n m (nextPlace n p)) ≡ ahead f x (walk n k (nextPlace n p))) →
             cond here 0 (f p + ahead f x (walk n m (nextPlace n p)))
             ≡ cond here 0 (f p + ahead f x (walk n k (nextPlace n p)))
         go true e rest = refl
-        go false e rest = ap (λ (a : ℕ). f p + a) (rest (later p (walk n k (nextPlace n p)) e there))
+        go false e rest = ap (λ (a : ℕ). f p + a) (rest (later x p (walk n k (nextPlace n p)) e there))
 
     -- ---- a round that serves the first s due places, x not among them; each due place counts
     module _ (due : ℕ → Bool) (counts : (p : ℕ) → due p ≡ true → 1 ≤ f p) (is-due : due x ≡ true) where
@@ -73,9 +73,9 @@ module _ (f : ℕ → ℕ) (x : ℕ) where
       abbrev firstOf : (s : ℕ) → List ℕ → List ℕ
       firstOf s ps = take s (dueAmong due ps)
 
-      module _ (k at : ℕ) (fits : suc k ≤ n) (there : There (walk n (suc k) at))
+      module _ (k at : ℕ) (fits : suc k ≤ n) (there : Among x (walk n (suc k) at))
           (rest :
-          There (walk n k (nextPlace n at)) → (l next : ℕ) →
+          Among x (walk n k (nextPlace n at)) → (l next : ℕ) →
           Passes (walk n k (nextPlace n at)) (firstOf (suc l) (walk n k (nextPlace n at))) (suc l) next) where
         abbrev ws : List ℕ
         ws = walk n k (nextPlace n at)
@@ -85,9 +85,9 @@ module _ (f : ℕ → ℕ) (x : ℕ) where
             (l : ℕ) → due at ≡ true → eqb at x ≡ false → NotIn x (firstOf l ws) →
             ahead f x (walk n n (nextBehind n (firstOf l ws) (nextPlace n at))) + suc l ≤ f at + ahead f x ws
         serves zero d e none =
-            omega (arith, counts at d, ahead-longer k n (nextPlace n at) (omega arith) (later at ws e there))
+            omega (arith, counts at d, ahead-longer k n (nextPlace n at) (omega arith) (later x at ws e there))
         serves (suc l) d e none =
-            omega (arith, counts at d, rest (later at ws e there) l (nextPlace n at) none)
+            omega (arith, counts at d, rest (later x at ws e there) l (nextPlace n at) none)
 
         turn :
             (l next : ℕ) (here : Bool) → eqb at x ≡ here → (b : Bool) → due at ≡ b →
@@ -99,10 +99,10 @@ module _ (f : ℕ → ℕ) (x : ℕ) where
         turn l next true e false d none =
             absurd (true≢false (sym is-due ∙ ap due (sym (eqb-true at x e)) ∙ d))
         turn l next false e true d none = serves l d e (none .1)
-        turn l next false e false d none = omega (arith, rest (later at ws e there) l next none)
+        turn l next false e false d none = omega (arith, rest (later x at ws e there) l next none)
 
       passes :
-          (k at : ℕ) → k ≤ n → There (walk n k at) → (l next : ℕ) →
+          (k at : ℕ) → k ≤ n → Among x (walk n k at) → (l next : ℕ) →
           Passes (walk n k at) (firstOf (suc l) (walk n k at)) (suc l) next
       passes zero at h there l next = absurd (there tt)
       passes (suc k) at h there l next =
@@ -110,7 +110,7 @@ module _ (f : ℕ → ℕ) (x : ℕ) where
           refl
 
       pub passed-over :
-          (s at next : ℕ) → 1 ≤ s → There (walk n n at) → NotIn x (take s (dueAmong due (walk n n at))) →
+          (s at next : ℕ) → 1 ≤ s → Among x (walk n n at) → NotIn x (take s (dueAmong due (walk n n at))) →
           ahead f x (walk n n (nextBehind n (take s (dueAmong due (walk n n at))) next)) + s
           ≤ ahead f x (walk n n at)
       passed-over zero at next h there none = absurd (omega arith)

@@ -2,7 +2,8 @@
 -- set. No contract cites this file.
 --   router-reached   its node is reachable
 --   sixteen-bound    masters / S, rounded up, is 6
---   sixteen-wait     domain 15 is due at each of six main cycles and sends in the sixth
+--   five-waited      domain 15 is due at each of five main cycles and has not sent
+--   sixteen-wait     it is due at each of six, and has
 --   router-sends     so the theorem says
 -- Assumes nothing.
 use Prim.Native.Nat.{ℕ, zero, suc, _+_}
@@ -29,7 +30,7 @@ use Rattle.waits.proofs.Waits.{each-sends}
 abbrev pub reading : ℕ → VirtualLocalTime
 reading t = record { 0 = t }
 
--- ---- a master with P 1 ms and C 1 ns; so many of them and then absent domains, with S
+-- ---- a master with P 1 ms and C 1 ns
 abbrev pub plainMaster : DomainSettings
 plainMaster = asMaster 1000000 1 Plain (record { 0 = 0; 1 = 0; 2 = 0 }) (absentHeld .ids)
 
