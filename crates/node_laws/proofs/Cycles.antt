@@ -1,5 +1,4 @@
 -- Laws of the main cycle's round. No contract cites this file.
---   count-sum      places of which a test holds, counted as a sum
 --   due-count      the number of frames of a round is that of the due domains, at most S
 --   round-each     what holds of the frame of each record that sends holds of each frame of the round
 --   pasted-whole   they are written one after another, and the bytes beyond them stay
@@ -50,7 +49,7 @@ use Rattle.node_laws.specs.Demands.{SyncsStand}
 
 -- ---- how many there are
 
-pub count-sum : (test : ℕ → Bool) (k : ℕ) → sumBelow (λ (p : ℕ). cond (test p) 1 0) k ≡ countBelow test k
+count-sum : (test : ℕ → Bool) (k : ℕ) → sumBelow (λ (p : ℕ). cond (test p) 1 0) k ≡ countBelow test k
 count-sum test zero = refl
 count-sum test (suc k) = ap (λ (n : ℕ). n + cond (test k) 1 0) (count-sum test k)
 

@@ -29,12 +29,16 @@ use Rattle.node_call.specs.Calls.{
   answersTo,
 }
 
+-- ---- The domain at place i is a master's.
+abbrev pub isMasterAt : Node → (i : ℕ) → Bool
+isMasterAt n i = isMaster (recordAt (n .domains) i .settings .role)
+
 -- ---- The call is not for the domain at place i; a main cycle is for masters.
 abbrev pub Elsewhere : Node → Call → (i : ℕ) → Type 0
 Elsewhere n (frame t bytes) i = i ≡ addressedBy bytes → ⊥
 Elsewhere n (read domain t) i = Unit {0}
 Elsewhere n (set domain t s ns) i = i ≡ domain % places → ⊥
-Elsewhere n (cycle t out) i = isMaster (recordAt (n .domains) i .settings .role) ≡ false
+Elsewhere n (cycle t out) i = isMasterAt n i ≡ false
 Elsewhere n (confirm domain t counter out) i = i ≡ domain % places → ⊥
 
 -- ---- The call is for the domain at place i.
@@ -100,7 +104,7 @@ OwnSent before t after = (after ≡ before) ⊎ (after ≡ sendOf before t .doma
 
 -- ---- The domain at place i is no master's.
 abbrev pub NoMaster : Node → (i : ℕ) → Type 0
-NoMaster n i = isMaster (recordAt (n .domains) i .settings .role) ≡ false
+NoMaster n i = isMasterAt n i ≡ false
 
 -- ---- The calls that are not for the domain are for others; the reading of each call that is for the domain is good
 -- where it stands.

@@ -24,6 +24,7 @@ use Rattle.node.specs.declared.Node.{Node}
 use Rattle.node.specs.New.{newOf}
 use Rattle.node_call.specs.Calls.{Call, frame, read, set, cycle, confirm, readingOf, nodeAfter, nodeAfterAll}
 use Rattle.node_laws.specs.Reachable.{AreCalls, Reachable, new}
+use Rattle.node_laws.specs.Apart.{isMasterAt}
 use Rattle.node_laws.specs.Due.{countBelow}
 use Rattle.node_laws.proofs.Witness.{are-calls, reaches}
 use Rattle.waits.specs.Waits.{
@@ -31,7 +32,6 @@ use Rattle.waits.specs.Waits.{
   completed,
   doesSend,
   hasSent,
-  isMasterAt,
   masters,
   roundedUp,
   DueUntilSent,

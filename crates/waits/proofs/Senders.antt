@@ -33,7 +33,7 @@ use Rattle.node.specs.declared.cycles.NodeCycle.{NodeCycle}
 use Rattle.node.specs.Frame.{addressedBy}
 use Rattle.node.specs.CycleAnswer.{cycleNumber}
 use Rattle.node.specs.Cycle.{isRoomFor, goneFrom, cycledBy}
-use Rattle.node_call.specs.Calls.{cycle, nodeAfter, answerTo, givenBy}
+use Rattle.node_call.specs.Calls.{cycle, nodeAfter, answerTo, numberIn, givenBy}
 use Rattle.node_laws.specs.Good.{Good}
 use Rattle.node_laws.proofs.Cycles.{addressed, cycle-given}
 use Rattle.waits.specs.Waits.{isCompleted, isAmong, doesSend}
@@ -77,6 +77,9 @@ among-not i (p ∷ ps) e = go (eqb p i) refl (among-not i ps) e
 -- ---- the main cycle
 
 module _ (n : Node) (t : VirtualLocalTime) (out : List ℕ) where
+  answered : isCompleted n (cycle t out) ≡ true → numberIn (answerTo n (cycle t out)) ≡ 0
+  answered e = omega (arith, eqb-true)
+
   abbrev Cycled : NodeCycle → Type 0
   Cycled r = cycleNumber (r .answer) ≡ 0 → r .node ≡ cycledBy n t (goneFrom n t) .node
 
@@ -86,7 +89,7 @@ module _ (n : Node) (t : VirtualLocalTime) (out : List ℕ) where
       either Cycled (isGoodReading (n .kept) t)
       (either Cycled (isRoomFor n (length out)) (λ z. refl) (λ z. absurd (omega arith)))
       (λ z. absurd (omega arith))
-      (eqb-true _ 0 e)
+      (answered e)
 
   abbrev served : List ℕ
   served = servedOf (n .domains) (n .round) t (n .«syncs_per_cycle»)
@@ -103,10 +106,10 @@ module _ (n : Node) (t : VirtualLocalTime) (out : List ℕ) where
     pub senders-served : map addressedBy (givenBy (answerTo n (cycle t out))) ≡ served
     senders-served =
         ap (map addressedBy)
-        (cycle-given n t out (eqb-true _ 0 e) ∙ round-frames (n .domains) (n .round) t (n .«syncs_per_cycle»))
+        (cycle-given n t out (answered e) ∙ round-frames (n .domains) (n .round) t (n .«syncs_per_cycle»))
         ∙ all-name (λ (p : ℕ). frameBy (recordAt (n .domains) p) t) served
         (each-with named served (served-below (n .domains) (n .round) t (n .«syncs_per_cycle»))
         (served-due (n .domains) (n .round) t (n .«syncs_per_cycle»)))
 
     pub sends-served : (i : ℕ) → doesSend n (cycle t out) i ≡ isAmong i served
-    sends-served i = (λ j. e j && isAmong i (senders-served j))
+    sends-served i = λ j. e j && isAmong i (senders-served j)

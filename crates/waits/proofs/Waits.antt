@@ -33,6 +33,7 @@ use Rattle.master_rules.specs.Due.{isMaster}
 use Rattle.master_rules.proofs.Laws.{by-due}
 use Rattle.master_send.specs.Send.{isAt, isDue}
 use Rattle.round.specs.FirstDue.{walk, servedOf, NotIn, nextBehind}
+use Rattle.round.proofs.Places.{sumOf}
 use Rattle.round.proofs.Walk.{walk-all, walk-sum}
 use Rattle.round.proofs.FirstDue.{round-next}
 use Rattle.node.specs.declared.Node.{Node}
@@ -41,16 +42,15 @@ use Rattle.node.specs.CycleAnswer.{cycleNumber}
 use Rattle.node.specs.Cycle.{isRoomFor}
 use Rattle.node_call.specs.Calls.{Call, frame, read, set, cycle, confirm, readingOf, nodeAfter}
 use Rattle.node_laws.specs.Reachable.{IsCall, AreCalls}
+use Rattle.node_laws.specs.Apart.{isMasterAt}
 use Rattle.node_laws.specs.Good.{Good}
 use Rattle.node_laws.proofs.Reachable.{call-good, reachable-good}
 use Rattle.node_laws.proofs.Stays.{settings-stay, syncs-stay}
-use Rattle.node_laws.proofs.Cycles.{count-sum}
 use Rattle.waits.specs.Waits.{
   isCompleted,
   completed,
   doesSend,
   hasSent,
-  isMasterAt,
   masters,
   roundedUp,
   DueUntilSent,
@@ -171,13 +171,17 @@ module _ (i : ℕ) (below : i < places) where
       step false e none later =
           let most = rw (syncs-stay n c) at later in omega (arith, most, call-passes n c i e)
 
+  -- on a walk round all places every master is counted
+  all-counted : (n : Node) (at : ℕ) → at < places → sumOf (masterOne n) (walk places places at) ≡ masters n
+  all-counted n at h = omega (arith, walk-sum places (masterOne n) at h)
+
   most-ahead : (n : Node) → isMasterAt n i ≡ true → mastersAhead n i < masters n
   unfolding mastersAhead aheadFrom
   most-ahead n is =
       let at = n .round % places in
       let counts : 1 ≤ masterOne n i = rw is (omega arith) in
       subst (λ (m : ℕ). ahead (masterOne n) i (walk places places at) < m)
-      (walk-sum places (masterOne n) at (mod-lt (n .round) (omega arith)) ∙ count-sum (isMasterAt n) places)
+      (all-counted n at (mod-lt (n .round) (omega arith)))
       (ahead-fewer (masterOne n) i (walk places places at) counts (comes i (n .round) below))
 
   pub waits-most :

@@ -8,7 +8,6 @@ use mathlib.Core.List.{List, [], _∷_, map}
 use lib.Dec.{eqb}
 use Rattle.settings.specs.Node.{places}
 use Rattle.domain.specs.Records.{recordAt}
-use Rattle.master_rules.specs.Due.{isMaster}
 use Rattle.master_send.specs.Send.{isDue}
 use Rattle.node.specs.declared.Node.{Node}
 use Rattle.node.specs.Frame.{addressedBy}
@@ -26,6 +25,7 @@ use Rattle.node_call.specs.Calls.{
   givenBy,
 }
 use Rattle.node_laws.specs.Reachable.{AreCalls, Reachable}
+use Rattle.node_laws.specs.Apart.{isMasterAt}
 use Rattle.node_laws.specs.Due.{countBelow}
 
 -- ---- "completed main cycles": those that are answered by 0, idle ones too; and how many there are among calls
@@ -52,10 +52,7 @@ abbrev pub hasSent : Node → List Call → (i : ℕ) → Bool
 hasSent n [] i = false
 hasSent n (c ∷ rest) i = doesSend n c i || hasSent (nodeAfter n c) rest i
 
--- ---- "a master domain"; "the number of master domains divided by S, rounded up"
-abbrev pub isMasterAt : Node → (i : ℕ) → Bool
-isMasterAt n i = isMaster (recordAt (n .domains) i .settings .role)
-
+-- ---- "the number of master domains divided by S, rounded up"
 abbrev pub masters : Node → ℕ
 masters n = countBelow (isMasterAt n) places
 
