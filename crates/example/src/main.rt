@@ -1,6 +1,6 @@
-// A tracker's use of the library, whole: settings, a node, a SYNC and its FUP received, the time read; a time set, a
-// SYNC sent in a main cycle, its FUP at the confirmation. Readings are written out where a product reads its clock, and
-// frames where it has them from the bus.
+// A tracker's use of the library, whole: settings, a node, a SYNC and its FUP received, the time read; the next two from
+// the queue of the bus driver, in one call; a time set, a SYNC sent in a main cycle, its FUP at the confirmation. Readings
+// are written out where a product reads its clock, and frames where it has them from the bus.
 use io::print_decimal;
 use io::print_hex;
 use io::write_all;
@@ -17,6 +17,7 @@ use knottgust::VirtualLocalTime;
 use knottgust::on_confirmation;
 use knottgust::on_frame;
 use knottgust::on_main_cycle;
+use knottgust::on_queue;
 use knottgust::on_read;
 use knottgust::on_set;
 use libc::STDOUT_FILENO;
@@ -107,6 +108,37 @@ fn receive(node: Node) {
         let time = shown.time;
         say_time(time);
     }
+    receive_queue(joined.node);
+}
+
+// The SYNC and the FUP a second later, as the bus driver's queue has them: a reading for each frame, eight bytes for
+// each, and room for a number for each.
+fn receive_queue(node: Node) {
+    let readings = [6_020_000_000, 6_030_000_000];
+    let frames = [
+        0x10,
+        0xBB,
+        0x12,
+        0xAA,
+        0x00,
+        0x00,
+        0x0E,
+        0x11,
+        0x18,
+        0x00,
+        0x12,
+        0x00,
+        0x00,
+        0x00,
+        0x00,
+        0x64,
+    ];
+    let mut numbers = [0u8; 2];
+    let queued = on_queue(node, &readings, &frames, &mut numbers);
+    let taken = queued.answer;
+    say(b"queue", taken.number());
+    say(b"its SYNC", numbers[0]);
+    say(b"its FUP", numbers[1]);
 }
 
 // The base set, a SYNC in a main cycle, and its FUP once the controller says that the SYNC left.

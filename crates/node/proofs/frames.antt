@@ -1,2 +1,3 @@
--- The laws of `node::frames`.
+-- The laws of `node::frames`, each after what it stands on.
+pub mod Stored
 pub mod Only

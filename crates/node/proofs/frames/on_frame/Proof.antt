@@ -1,17 +1,11 @@
 -- `node::frames::on_frame` meets its contract: the record looked up is that at the place that byte 2 names,
 -- and what the call gives is stored there.
 -- Assumes nothing.
-use Prim.Native.Nat.{ℕ, _%_}
-use mathlib.Core.Path.{ap, _∙_}
 use native.Mathlib.Omega.{arith}
 use denote.Ref.{now}
 use borrow.Author.Needs.{needs}
-use Rattle.settings.specs.Node.{places}
-use Rattle.domain.specs.declared.Domain.{Domain}
-use Rattle.call_frame.specs.FrameCall.{frameCallOf}
-use Rattle.domain.specs.Records.{recordAt}
-use Rattle.node.specs.Frame.{frameStored}
 use Rattle.node.proofs.Sixteen.{looked-up}
+use Rattle.node.proofs.frames.Stored.{frame-stored}
 use Rattle.node.proofs.frames.on_frame.Statement.{statement}
 use Rattle.node.proofs.frames.on_frame.Tie as tie
 
@@ -41,14 +35,10 @@ returns c =
     let called = c .before .before in
     let at = called .before .before .before in
     let a = at .before .before .args in
-    let bytes = now (a .bytes) in
-    ap (frameStored (a .t1) (at .named-domain .result % places))
-    (called .frame-call .ensures
-    ∙ ap (λ (d : Domain). frameCallOf d (a .t1 .kept) (a .t) bytes)
-    (looked-up (a .t1) _ (at .before .before .good .0) _ _ (omega arith)))
-    ∙ ap (λ (i : ℕ).
-    frameStored (a .t1) (i % places) (frameCallOf (recordAt (a .t1 .domains) (i % places)) (a .t1 .kept) (a .t) bytes))
+    frame-stored (a .t1) (a .t) (now (a .bytes))
     (at .named-domain .ensures)
+    (looked-up (a .t1) _ (at .before .before .good .0) _ _ (omega arith))
+    (called .frame-call .ensures)
 
 pub on-frame-spec : {M : Type 1} → statement M
 on-frame-spec =

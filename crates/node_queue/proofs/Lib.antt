@@ -1,0 +1,4 @@
+-- The laws of `node_queue`, each after what it stands on.
+pub mod Rest
+pub mod Only
+pub mod Laws

@@ -1,0 +1,2 @@
+-- The definitions of `node_queue`.
+pub mod Queue
