@@ -30,9 +30,10 @@ impl QueueAnswer {
     }
 }
 
+// The node first: behind an answer of two bytes the compiler would hold it twice.
 pub struct NodeQueue {
-    pub answer: QueueAnswer,
     pub node: Node,
+    pub answer: QueueAnswer,
 }
 
 // Frames of eight bytes one after another in `frames`, each at its reading; the number of each goes to its place in
@@ -44,8 +45,8 @@ pub fn on_queue(mut node: Node, readings: &[u64], frames: &[u8], answers: &mut [
 {
     if let QueueAnswer::Refused(refusal) = judge(readings.len(), frames.len(), answers.len()) {
         return NodeQueue {
-            answer: QueueAnswer::Refused(refusal),
             node,
+            answer: QueueAnswer::Refused(refusal),
         };
     }
     let mut i = 0;
@@ -65,8 +66,8 @@ pub fn on_queue(mut node: Node, readings: &[u64], frames: &[u8], answers: &mut [
         i += 1;
     }
     NodeQueue {
-        answer: QueueAnswer::Taken,
         node,
+        answer: QueueAnswer::Taken,
     }
 }
 
