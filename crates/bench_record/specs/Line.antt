@@ -4,13 +4,11 @@ use mathlib.Core.List.{List, _++_}
 use Rattle.text.specs.Text.{hexByte}
 use Rattle.text.specs.Lines.{blank, newline, answerText, timeText}
 use Rattle.call_read.specs.declared.Shown.{Shown}
-use Rattle.node_call.specs.declared.CallAnswer.{CallAnswer}
-use Rattle.node_call.specs.Calls.{callNumber}
 
 -- ---- "seconds, a point, nine digits, and the status as two hex digits", a blank before each of the two
 abbrev pub shownText : Shown → List ℕ
 shownText shown = blank ++ timeText (shown .time) ++ blank ++ hexByte (shown .status)
 
 -- ---- "A line is the record's number from 1 and the answer", and the values that it adds.
-abbrev pub lineWith : (item : ℕ) → CallAnswer → (values : List ℕ) → List ℕ
-lineWith item answer values = answerText item (callNumber answer) ++ values ++ newline
+abbrev pub lineWith : (item number : ℕ) (values : List ℕ) → List ℕ
+lineWith item number values = answerText item number ++ values ++ newline

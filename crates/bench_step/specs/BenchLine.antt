@@ -11,6 +11,7 @@ use Rattle.master_confirm.specs.declared.ConfirmAnswer.{ConfirmAnswer}
 use Rattle.master_confirm.specs.declared.ConfirmAnswer.the-variants as confirm
 use Rattle.node_call.specs.declared.CallAnswer.{CallAnswer}
 use Rattle.node_call.specs.declared.CallAnswer.the-variants.{Frame, Read, Set, Cycle, Confirm}
+use Rattle.node_call.specs.Calls.{callNumber}
 use Rattle.bench_record.specs.Line.{shownText, lineWith}
 
 -- ---- "on success kind 2 adds seconds, a point, nine digits, and the status as two hex digits"
@@ -40,4 +41,4 @@ benchValues (Cycle answer) sent = benchCycle answer sent
 benchValues (Confirm answer) sent = benchConfirm answer sent
 
 abbrev pub benchLine : (item : ℕ) → CallAnswer → (sent : List ℕ) → List ℕ
-benchLine item answer sent = lineWith item answer (benchValues answer sent)
+benchLine item answer sent = lineWith item (callNumber answer) (benchValues answer sent)

@@ -43,7 +43,8 @@ pub fn keep_rest(input: &mut [u8], used: usize, held: usize) -> usize
     kept
 }
 
-fn least(a: usize, b: usize) -> usize
+// The smaller of the two.
+pub fn least(a: usize, b: usize) -> usize
     ensures { λ r. ⌜ r ≡ min a b ⌝ }
 {
     if a < b { a } else { b }

@@ -10,15 +10,16 @@ use Rattle.bench_record.specs.declared.step.Step.{Step}
 use Rattle.bench_record.specs.Record.{askedBy}
 use Rattle.bench_record.proofs.step.Only.{stepped-only, record-stepped-only}
 use Rattle.trial_step.specs.TrialLine.{trialLine}
-use Rattle.trial_step.specs.Item.{isSettings}
+use Rattle.trial_step.specs.Item.{isSettings, holdsQueue}
 use Rattle.trial_step.specs.Step.{givenFrame, lentBuffer, ItemStepped, TrialStepped}
 
 pub trial-step-only :
     (n : Node) (item : ℕ) (bytes : List ℕ) (at : ℕ) (before : List ℕ) →
     OnlyOne (λ (r : Step × List ℕ). TrialStepped n item bytes at before (r .0) (r .1))
-trial-step-only n item bytes at before = go (isSettings bytes)
+trial-step-only n item bytes at before = go (isSettings bytes) (holdsQueue bytes)
   where
-    go : (s : Bool) → OnlyOne (λ (r : Step × List ℕ). ItemStepped s n item bytes at before (r .0) (r .1))
-    go true = stepped-only _ _ _ at before
-    go false =
+    go : (s q : Bool) → OnlyOne (λ (r : Step × List ℕ). ItemStepped s q n item bytes at before (r .0) (r .1))
+    go true q = stepped-only _ _ _ at before
+    go false true = stepped-only _ _ _ at before
+    go false false =
         record-stepped-only (askedBy bytes) (trialLine item) (givenFrame bytes) (lentBuffer bytes) n item at before

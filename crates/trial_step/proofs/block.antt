@@ -1,4 +1,3 @@
--- The laws of `trial_step::block`, each after what it stands on.
-pub mod Laws
+-- The laws of `trial_step::block`.
 pub mod Only
 pub mod Refused

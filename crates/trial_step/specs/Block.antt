@@ -1,9 +1,10 @@
 -- A settings block of the trial: the mark C7 3B, S, n, and n domain blocks of 128 bytes. Assumes nothing.
-use Prim.Native.Nat.{ℕ, zero, suc, _+_, _*_}
+use Prim.Native.Nat.{ℕ, _+_, _*_}
 use mathlib.Core.Bool.{cond}
-use mathlib.Core.List.{List, [], _∷_}
+use mathlib.Core.List.{List}
 use lib.Dec.{ltb}
 use lib.ListN.{getD, replicate}
+use Rattle.text.specs.Fields.{fieldsAt}
 use Rattle.settings.specs.declared.domain_settings.DomainSettings.{DomainSettings}
 use Rattle.settings.specs.declared.node_settings.NodeSettings.{NodeSettings}
 use Rattle.settings.specs.Domain.{absentHeld}
@@ -13,13 +14,12 @@ use Rattle.trial_step.specs.DomainBlock.{domainAt}
 abbrev pub oneOf : (blocks : ℕ) → List ℕ → (d : ℕ) → DomainSettings
 oneOf blocks item d = cond (ltb d blocks) (domainAt item (4 + 128 * d)) absentHeld
 
-abbrev pub domainsFrom : (k blocks : ℕ) → List ℕ → (d : ℕ) → List DomainSettings
-domainsFrom zero blocks item d = []
-domainsFrom (suc k) blocks item d = oneOf blocks item d ∷ domainsFrom k blocks item (d + 1)
+abbrev pub domainsOf : (k blocks : ℕ) → List ℕ → List DomainSettings
+domainsOf k blocks item = fieldsAt (oneOf blocks item) 1 k 0
 
 -- ---- "with n above 16 the answer is 14": settings that no node takes, with S 0.
 abbrev pub settingsOf : List ℕ → NodeSettings
 settingsOf item =
     cond (ltb 16 (getD item 3 0))
     (record { «syncs_per_cycle» = 0; domains = replicate 16 absentHeld })
-    (record { «syncs_per_cycle» = getD item 2 0; domains = domainsFrom 16 (getD item 3 0) item 0 })
+    (record { «syncs_per_cycle» = getD item 2 0; domains = domainsOf 16 (getD item 3 0) item })

@@ -1,8 +1,7 @@
--- An item of the trial: a settings block or a call record, and its line. Assumes nothing.
-use Prim.Native.Nat.{ℕ}
-use mathlib.Core.Bool.{Bool, true, false, cond}
+-- An item of the trial: a settings block, a queue or a call record, and its line. Assumes nothing.
+use Prim.Native.Nat.{ℕ, min}
+use mathlib.Core.Bool.{Bool, true, false}
 use mathlib.Core.List.{List, _++_}
-use lib.Dec.{ltb}
 use lib.ListN.{getD, take, replicate}
 use Rattle.text.specs.Fields.{pairAt, bytesAt}
 use Rattle.text.specs.Lines.{newline, answerText}
@@ -16,7 +15,8 @@ use Rattle.bench_record.specs.declared.step.Step.{Step}
 use Rattle.bench_record.specs.Record.{askedBy}
 use Rattle.bench_record.specs.Step.{Stepped, RecordStepped}
 use Rattle.trial_step.specs.TrialLine.{trialLine}
-use Rattle.trial_step.specs.Item.{isSettings}
+use Rattle.trial_step.specs.Queue.{QueueStepped}
+use Rattle.trial_step.specs.Item.{isSettings, holdsQueue}
 use Rattle.trial_step.specs.Block.{settingsOf}
 
 -- ---- Kind 1: the domain byte is the frame's length, its bytes are the payload's and beyond eight zeros.
@@ -26,16 +26,13 @@ paddedFrame bytes = bytesAt 8 bytes 12 ++ replicate 247 0
 abbrev pub givenFrame : List ℕ → List ℕ
 givenFrame bytes = take (getD bytes 3 0) (paddedFrame bytes)
 
--- ---- Kind 4: the first two payload bytes are the buffer's length; kind 5: bytes 1 and 2.
-abbrev pub atMost512 : ℕ → ℕ
-atMost512 length = cond (ltb length 512) length 512
-
+-- ---- Kind 4: the first two payload bytes are the buffer's length; kind 5: bytes 1 and 2. Above 512 it counts as 512.
 abbrev pub lentLength : Request → List ℕ → ℕ
 lentLength (Frame t) bytes = 0
 lentLength (Read domain t) bytes = 0
 lentLength (Set domain t s ns) bytes = 0
-lentLength (Cycle t) bytes = atMost512 (pairAt bytes 12)
-lentLength (Confirm domain t counter) bytes = atMost512 (pairAt bytes 13)
+lentLength (Cycle t) bytes = min (pairAt bytes 12) 512
+lentLength (Confirm domain t counter) bytes = min (pairAt bytes 13) 512
 
 -- ---- Lent buffers hold A5 before the call.
 abbrev pub lentBuffer : (bytes : List ℕ) → Request → List ℕ
@@ -50,12 +47,15 @@ Renewed item bytes at before r after =
     let new = renewedBy bytes in
     Stepped (new .node) true (answerText item (verdictNumber (new .verdict)) ++ newline) at before r after
 
--- ---- An item by whether it is a settings block.
+-- ---- An item by whether it is a settings block, and whether a queue.
 abbrev pub ItemStepped :
-    (settings : Bool) → Node → (item : ℕ) (bytes : List ℕ) (at : ℕ) (before : List ℕ) → Step → List ℕ → Type 0
-ItemStepped true n item bytes at before r after = Renewed item bytes at before r after
-ItemStepped false n item bytes at before r after =
+    (settings queue : Bool) →
+    Node → (item : ℕ) (bytes : List ℕ) (at : ℕ) (before : List ℕ) → Step → List ℕ → Type 0
+ItemStepped true queue n item bytes at before r after = Renewed item bytes at before r after
+ItemStepped false true n item bytes at before r after = QueueStepped n item bytes at before r after
+ItemStepped false false n item bytes at before r after =
     RecordStepped (askedBy bytes) (trialLine item) (givenFrame bytes) (lentBuffer bytes) n item at before r after
 
 abbrev pub TrialStepped : Node → (item : ℕ) (bytes : List ℕ) (at : ℕ) (before : List ℕ) → Step → List ℕ → Type 0
-TrialStepped n item bytes at before r after = ItemStepped (isSettings bytes) n item bytes at before r after
+TrialStepped n item bytes at before r after =
+    ItemStepped (isSettings bytes) (holdsQueue bytes) n item bytes at before r after

@@ -9,6 +9,9 @@ use Rattle.call_read.specs.declared.ReadAnswer.the-variants as read
 use Rattle.node.specs.CycleAnswer.{cycleCount}
 use Rattle.node_call.specs.declared.CallAnswer.{CallAnswer}
 use Rattle.node_call.specs.declared.CallAnswer.the-variants.{Frame, Read, Set, Cycle, Confirm}
+use Rattle.node_queue.specs.declared.QueueAnswer.{QueueAnswer}
+use Rattle.node_queue.specs.Queue.{queueNumber}
+use Rattle.node_call.specs.Calls.{callNumber}
 use Rattle.bench_record.specs.Line.{shownText, lineWith}
 
 -- ---- User bytes 0 to 2.
@@ -36,4 +39,8 @@ trialValues (Cycle answer) buffer = blank ++ decimal (cycleCount answer) ++ buff
 trialValues (Confirm answer) buffer = bufferText buffer
 
 abbrev pub trialLine : (item : ℕ) → CallAnswer → (buffer : List ℕ) → List ℕ
-trialLine item answer buffer = lineWith item answer (trialValues answer buffer)
+trialLine item answer buffer = lineWith item (callNumber answer) (trialValues answer buffer)
+
+-- ---- A queue's line has its number and the answer buffer.
+abbrev pub queueLine : (item : ℕ) → QueueAnswer → (buffer : List ℕ) → List ℕ
+queueLine item answer buffer = lineWith item (queueNumber answer) (bufferText buffer)

@@ -5,7 +5,7 @@ use settings::DomainSettings;
 use settings::NodeSettings;
 use text::fields::byte_at;
 ghost use mathlib.Core.Path.{_≡_};
-ghost use Rattle.trial_step.specs.Block.{oneOf, domainsFrom, settingsOf};
+ghost use Rattle.trial_step.specs.Block.{oneOf, domainsOf, settingsOf};
 
 // The settings of a block.
 pub fn settings_of(item: &[u8]) -> NodeSettings
@@ -25,7 +25,7 @@ pub fn settings_of(item: &[u8]) -> NodeSettings
 }
 
 fn domains_of(item: &[u8], blocks: u8) -> [DomainSettings; 16]
-    ensures { λ r. ⌜ r ≡ domainsFrom 16 blocks (now (item .entry)) 0 ⌝ }
+    ensures { λ r. ⌜ r ≡ domainsOf 16 blocks (now (item .entry)) ⌝ }
 {
     let mut domains = [DomainSettings::absent(); 16];
     let mut d: u8 = 0;

@@ -1,12 +1,15 @@
-// An item of the trial: a settings block or a call record, and its line.
+// An item of the trial: a settings block, a queue or a call record, and its line.
 pub mod block;
 mod domain_block;
 pub mod item;
 pub mod line;
+mod queue;
 
 use crate::block::settings_of;
+use crate::item::holds_queue;
 use crate::item::is_settings;
 use crate::line::put_trial_line;
+use crate::queue::take_queue;
 use bench_record::Asked;
 use bench_record::asked_by;
 use bench_record::step::Step;
@@ -17,6 +20,7 @@ use node_call::call;
 use text::fields::byte_at;
 use text::fields::pair_at;
 use text::lines::put_answer;
+use text::pieces::least;
 use text::put_byte;
 ghost use mathlib.Core.Path.{_≡_};
 ghost use Rattle.bench_record.specs.Step.{Answered};
@@ -24,7 +28,6 @@ ghost use Rattle.trial_step.specs.TrialLine.{trialLine};
 ghost use Rattle.trial_step.specs.Step.{
   paddedFrame,
   givenFrame,
-  atMost512,
   lentLength,
   lentBuffer,
   Renewed,
@@ -37,6 +40,9 @@ pub fn trial_step(node: Node, item: u64, bytes: &[u8], out: &mut [u8], at: usize
 {
     if is_settings(bytes) {
         return renew(item, bytes, out, at);
+    }
+    if holds_queue(bytes) {
+        return take_queue(node, item, bytes, out, at);
     }
     match asked_by(bytes) {
         Asked::Bad => bad_record(node, item, out, at),
@@ -113,15 +119,9 @@ fn lent_length(request: Request, bytes: &[u8]) -> usize
         Request::Frame(_) => 0,
         Request::Read(_, _) => 0,
         Request::Set(_, _, _, _) => 0,
-        Request::Cycle(_) => at_most_512(pair_at(bytes, 12)),
-        Request::Confirm(_, _, _) => at_most_512(pair_at(bytes, 13)),
+        Request::Cycle(_) => least(pair_at(bytes, 12) as usize, 512),
+        Request::Confirm(_, _, _) => least(pair_at(bytes, 13) as usize, 512),
     }
-}
-
-fn at_most_512(length: u16) -> usize
-    ensures { λ r. ⌜ r ≡ atMost512 length ⌝ }
-{
-    if length < 512 { length as usize } else { 512 }
 }
 
 // The payload, and zeros.

@@ -3,6 +3,7 @@ use bench_record::line::put_shown;
 use call_read::ReadAnswer;
 use node::CycleAnswer;
 use node_call::CallAnswer;
+use node_queue::QueueAnswer;
 use settings::UserBytes;
 use text::lines::put_answer;
 use text::put_byte;
@@ -18,6 +19,7 @@ ghost use Rattle.trial_step.specs.TrialLine.{
   bufferText,
   trialValues,
   trialLine,
+  queueLine,
 };
 
 // `buffer` is the lent buffer after the call.
@@ -32,6 +34,21 @@ pub fn put_trial_line(
 {
     let values = put_answer(out, at, item, answer.number());
     let end = put_values(out, values, answer, buffer);
+    put_byte(out, end, b'\n')
+}
+
+// A queue's line; `buffer` is the answer buffer after the call.
+pub fn put_queue_line(
+    out: &mut [u8],
+    at: usize,
+    item: u64,
+    answer: QueueAnswer,
+    buffer: &[u8],
+) -> usize
+    ensures { λ r. ⌜ Puts (queueLine item answer (now (buffer .entry))) at (now (out .entry)) r (now (out .exit)) ⌝ }
+{
+    let then = put_answer(out, at, item, answer.number());
+    let end = put_buffer(out, then, buffer);
     put_byte(out, end, b'\n')
 }
 

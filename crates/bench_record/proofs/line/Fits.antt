@@ -11,8 +11,6 @@ use Rattle.text.specs.Lines.{blank, newline, answerText, timeText}
 use Rattle.text.proofs.Lengths.{append-fits}
 use Rattle.text.proofs.lines.Fits.{time-fits, answer-fits}
 use Rattle.call_read.specs.declared.Shown.{Shown}
-use Rattle.node_call.specs.declared.CallAnswer.{CallAnswer}
-use Rattle.node_call.specs.Calls.{callNumber}
 use Rattle.bench_record.specs.Line.{shownText, lineWith}
 
 pub shown-fits : (shown : Shown) → length (shownText shown) ≤ 34
@@ -24,9 +22,9 @@ shown-fits shown =
     (le-refl 2)
 
 pub with-fits :
-    (item : ℕ) (answer : CallAnswer) (values : List ℕ) {most : ℕ} → length values ≤ most →
-    length (lineWith item answer values) ≤ 41 + most + 1
-with-fits item answer values h =
-    append-fits (answerText item (callNumber answer) ++ values) newline
-    (append-fits (answerText item (callNumber answer)) values (answer-fits item (callNumber answer)) h)
+    (item number : ℕ) (values : List ℕ) {most : ℕ} → length values ≤ most →
+    length (lineWith item number values) ≤ 41 + most + 1
+with-fits item number values h =
+    append-fits (answerText item number ++ values) newline
+    (append-fits (answerText item number) values (answer-fits item number) h)
     (le-refl 1)

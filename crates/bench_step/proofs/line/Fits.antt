@@ -16,6 +16,7 @@ use Rattle.node.specs.declared.cycles.CycleAnswer.the-variants as cycle
 use Rattle.master_confirm.specs.declared.ConfirmAnswer.{ConfirmAnswer}
 use Rattle.master_confirm.specs.declared.ConfirmAnswer.the-variants as confirm
 use Rattle.node_call.specs.declared.CallAnswer.{CallAnswer}
+use Rattle.node_call.specs.Calls.{callNumber}
 use Rattle.node_call.specs.declared.CallAnswer.the-variants.{Frame, Read, Set, Cycle, Confirm}
 use Rattle.bench_record.proofs.line.Fits.{shown-fits, with-fits}
 use Rattle.bench_step.specs.BenchLine.{benchRead, framesText, benchCycle, benchConfirm, benchValues, benchLine}
@@ -52,4 +53,4 @@ values-fit (Confirm answer) sent h = omega (arith, confirm-fits answer sent h)
 pub line-fits :
     (item : ℕ) (answer : CallAnswer) (sent : List ℕ) → length sent ≤ 8 →
     length (benchLine item answer sent) ≤ 80
-line-fits item answer sent h = with-fits item answer (benchValues answer sent) (values-fit answer sent h)
+line-fits item answer sent h = with-fits item (callNumber answer) (benchValues answer sent) (values-fit answer sent h)

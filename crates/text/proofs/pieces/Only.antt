@@ -1,7 +1,7 @@
 -- No two results satisfy the promise of F, as `F-only` for each public function F that reads and writes nothing. A
 -- result with lent bytes is a pair of both. No contract cites this file.
 -- Assumes nothing.
-use Prim.Native.Nat.{ℕ}
+use Prim.Native.Nat.{ℕ, min}
 use mathlib.Core.Path.{_≡_, sym, ap, _∙_}
 use mathlib.Core.List.{List}
 use lib.ListN.{drop}
@@ -17,6 +17,9 @@ keep-rest-only used held before x y p q =
     let count = p .count ∙ sym (q .count) in
     let bytes = p .bytes ∙ ap (paste before 0 (drop used before)) count ∙ sym (q .bytes) in
     λ i. (count i, bytes i)
+
+pub least-only : (a b : ℕ) → OnlyOne (λ (r : ℕ). r ≡ min a b)
+least-only a b = equation-only (min a b)
 
 pub with-room-only : (at line length : ℕ) → OnlyOne (λ (r : ℕ). r ≡ placeFor at line length)
 with-room-only at line length = equation-only (placeFor at line length)

@@ -1,16 +1,14 @@
 -- `trial_step::ask` meets its contract: the lent parts of the two arrays are the record's frame and a buffer of A5s.
 -- Assumes nothing.
-use Prim.Native.Nat.{ℕ, zero, suc, _≤_}
+use Prim.Native.Nat.{ℕ, _≤_}
 use mathlib.Core.Path.{_≡_, refl, sym, ap, subst, _∙_}
-use mathlib.Core.Bool.{Bool, true, false, cond}
 use mathlib.Core.List.{List}
+use native.Mathlib.Nat.{min-le-right}
 use native.Mathlib.Omega.{arith}
-use lib.Dec.{ltb}
 use lib.ListN.{length, getD, take, replicate}
 use lib.Seq.{length-take-le}
 use denote.Ref.{now}
 use borrow.Author.Needs.{needs}
-use borrow.Author.Tests.{ltb-true}
 use Rattle.promise.proofs.Lists.{take-replicate}
 use Rattle.text.specs.Fields.{pairAt}
 use Rattle.node.specs.declared.Node.{Node}
@@ -19,24 +17,17 @@ use Rattle.node_call.specs.declared.Request.the-variants.{Frame, Read, Set, Cyc
 use Rattle.bench_record.specs.declared.step.Step.{Step}
 use Rattle.bench_record.specs.Step.{Answered}
 use Rattle.trial_step.specs.TrialLine.{trialLine}
-use Rattle.trial_step.specs.Step.{paddedFrame, givenFrame, atMost512, lentLength, lentBuffer}
+use Rattle.trial_step.specs.Step.{paddedFrame, givenFrame, lentLength, lentBuffer}
 use Rattle.trial_step.proofs.ask.Statement.{statement}
 use Rattle.trial_step.proofs.ask.Tie as tie
 
 -- ---- At most 512 bytes are lent.
-at-most : (n : ℕ) → atMost512 n ≤ 512
-at-most n = go (ltb n 512) refl
-  where
-    go : (b : Bool) → ltb n 512 ≡ b → cond b n 512 ≤ 512
-    go true e = omega (arith, ltb-true n 512 e)
-    go false e = omega arith
-
 lent-most : (q : Request) (bytes : List ℕ) → lentLength q bytes ≤ 512
 lent-most (Frame t) bytes = omega arith
 lent-most (Read domain t) bytes = omega arith
 lent-most (Set domain t s ns) bytes = omega arith
-lent-most (Cycle t) bytes = at-most (pairAt bytes 12)
-lent-most (Confirm domain t counter) bytes = at-most (pairAt bytes 13)
+lent-most (Cycle t) bytes = min-le-right (pairAt bytes 12) 512
+lent-most (Confirm domain t counter) bytes = min-le-right (pairAt bytes 13) 512
 
 -- ---- A part of a list of one value.
 asked :

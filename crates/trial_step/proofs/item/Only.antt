@@ -7,10 +7,13 @@ use mathlib.Core.Bool.{Bool}
 use mathlib.Core.List.{List}
 use Rattle.promise.specs.Only.{OnlyOne}
 use Rattle.promise.proofs.Laws.{equation-only}
-use Rattle.trial_step.specs.Item.{isSettings, itemLength}
+use Rattle.trial_step.specs.Item.{isSettings, holdsQueue, itemLength}
 
 pub is-settings-only : (item : List ℕ) → OnlyOne (λ (r : Bool). r ≡ isSettings item)
 is-settings-only item = equation-only _
+
+pub holds-queue-only : (item : List ℕ) → OnlyOne (λ (r : Bool). r ≡ holdsQueue item)
+holds-queue-only item = equation-only _
 
 pub item-length-only : (bytes : List ℕ) → OnlyOne (λ (r : ℕ). r ≡ itemLength bytes)
 item-length-only bytes = equation-only _

@@ -18,8 +18,11 @@ enum-told-4 c = search needs
 pair-at-requires : tie.Need-pair-at-requires
 pair-at-requires c κs = search needs
 
-at-most-512-requires : tie.Need-at-most-512-requires
-at-most-512-requires c κs = search needs
+cast-least : tie.Need-cast-least
+cast-least c = search needs
+
+least-requires : tie.Need-least-requires
+least-requires c κs = search needs
 
 enum-told-5 : tie.Need-enum-told-5
 enum-told-5 c = search needs
@@ -27,8 +30,11 @@ enum-told-5 c = search needs
 pair-at-requires-2 : tie.Need-pair-at-requires-2
 pair-at-requires-2 c κs = search needs
 
-at-most-512-requires-2 : tie.Need-at-most-512-requires-2
-at-most-512-requires-2 c κs = search needs
+cast-least-2 : tie.Need-cast-least-2
+cast-least-2 c = search needs
+
+least-requires-2 : tie.Need-least-requires-2
+least-requires-2 c κs = search needs
 
 returns : tie.Need-returns
 returns c = search needs
@@ -43,13 +49,13 @@ returns-4 : tie.Need-returns-4
 returns-4 c =
     let read = c .before in
     let told = read .before in
-    rw (told .enum-told4 .given .1, c .at-most-512 .ensures, read .pair-at .ensures)
+    rw (told .enum-told4 .given .1, c .least .ensures, read .pair-at .ensures)
 
 returns-5 : tie.Need-returns-5
 returns-5 c =
     let read = c .before in
     let told = read .before in
-    rw (told .enum-told5 .given .1, c .at-most-5122 .ensures, read .pair-at2 .ensures)
+    rw (told .enum-told5 .given .1, c .least2 .ensures, read .pair-at2 .ensures)
 
 pub lent-length-spec : {M : Type 1} → statement M
 lent-length-spec =
@@ -60,10 +66,12 @@ lent-length-spec =
     enum-told-3
     enum-told-4
     pair-at-requires
-    at-most-512-requires
+    cast-least
+    least-requires
     enum-told-5
     pair-at-requires-2
-    at-most-512-requires-2
+    cast-least-2
+    least-requires-2
     returns
     returns-2
     returns-3

@@ -3,7 +3,7 @@
 -- Assumes nothing.
 use Prim.Native.Nat.{ℕ, _≤_}
 use mathlib.Core.List.{List, [], _∷_, _++_}
-use native.Mathlib.Nat.{le-refl}
+use native.Mathlib.Nat.{le-refl, le-trans}
 use native.Mathlib.Omega.{arith}
 use lib.ListN.{length}
 use Rattle.text.specs.Text.{decimal}
@@ -13,7 +13,10 @@ use Rattle.call_read.specs.declared.ReadAnswer.{ReadAnswer}
 use Rattle.call_read.specs.declared.ReadAnswer.the-variants as read
 use Rattle.node.specs.CycleAnswer.{cycleCount}
 use Rattle.node_call.specs.declared.CallAnswer.{CallAnswer}
+use Rattle.node_call.specs.Calls.{callNumber}
 use Rattle.node_call.specs.declared.CallAnswer.the-variants.{Frame, Read, Set, Cycle, Confirm}
+use Rattle.node_queue.specs.declared.QueueAnswer.{QueueAnswer}
+use Rattle.node_queue.specs.Queue.{queueNumber}
 use Rattle.bench_record.specs.Line.{shownText}
 use Rattle.bench_record.proofs.line.Fits.{shown-fits, with-fits}
 use Rattle.trial_step.specs.TrialLine.{
@@ -23,6 +26,7 @@ use Rattle.trial_step.specs.TrialLine.{
   bufferText,
   trialValues,
   trialLine,
+  queueLine,
 }
 
 buffer-shown-fits : (buffer : List ℕ) → length buffer ≤ 512 → length (shownBuffer buffer) ≤ 1024
@@ -56,4 +60,10 @@ values-fit (Confirm answer) buffer h = omega (arith, buffer-fits buffer h)
 pub line-fits :
     (item : ℕ) (answer : CallAnswer) (buffer : List ℕ) → length buffer ≤ 512 →
     length (trialLine item answer buffer) ≤ 1088
-line-fits item answer buffer h = with-fits item answer (trialValues answer buffer) (values-fit answer buffer h)
+line-fits item answer buffer h = with-fits item (callNumber answer) (trialValues answer buffer) (values-fit answer buffer h)
+
+pub queue-line-fits :
+    (item : ℕ) (answer : QueueAnswer) (buffer : List ℕ) → length buffer ≤ 512 →
+    length (queueLine item answer buffer) ≤ 1088
+queue-line-fits item answer buffer h =
+    le-trans (with-fits item (queueNumber answer) (bufferText buffer) (buffer-fits buffer h)) (omega arith)

@@ -1,8 +1,8 @@
 -- `trial_step::padded_frame` meets its contract. The invariant: the frame is the first i payload bytes, and zeros. The
 -- measure is what is left of the eight. Assumes nothing.
-use Prim.Native.Nat.{ℕ, zero, suc, _+_, _-_, _≤_, _<_}
+use Prim.Native.Nat.{ℕ, suc, _+_, _-_, _*_, _≤_, _<_}
 use mathlib.Core.Path.{_≡_, refl, sym, ap, _∙_}
-use mathlib.Core.List.{List, _∷_, _++_}
+use mathlib.Core.List.{List, [], _∷_, _++_}
 use native.Mathlib.Numerals.{add-one}
 use native.Mathlib.Omega.{arith}
 use lib.ListN.{length, getD, set, replicate}
@@ -10,7 +10,7 @@ use lib.Seq.{append-snoc, set-at}
 use denote.Ref.{now}
 use borrow.Author.Needs.{needs}
 use Rattle.text.specs.Fields.{bytesAt}
-use Rattle.text.proofs.fields.Laws.{bytes-at-suc}
+use Rattle.text.proofs.fields.Laws.{fields-length, fields-suc}
 use Rattle.trial_step.proofs.padded_frame.Statement.{statement}
 use Rattle.trial_step.proofs.padded_frame.Tie as tie
 
@@ -23,10 +23,6 @@ Inv-loop bytes frame₀ i₀ frame i = (i ≤ 8) × (frame ≡ filled i bytes)
 abbrev μ-loop : tie.MeasureT-loop
 μ-loop bytes frame₀ i₀ frame i = 8 - i
 
-length-bytes-at : (k : ℕ) (bytes : List ℕ) (at : ℕ) → length (bytesAt k bytes at) ≡ k
-length-bytes-at zero bytes at = refl
-length-bytes-at (suc k) bytes at = ap suc (length-bytes-at k bytes (at + 1))
-
 -- the byte takes the place of the first zero
 turn :
     (bytes : List ℕ) (i byte : ℕ) → i < 8 → byte ≡ getD bytes (12 + i) 0 →
@@ -34,9 +30,12 @@ turn :
 turn bytes i byte h e =
     let first : 255 - i ≡ suc (254 - i) = omega arith in
     let rest : 254 - i ≡ 255 - (i + 1) = omega arith in
-    let more = sym (bytes-at-suc i bytes 12) ∙ ap (λ (k : ℕ). bytesAt k bytes 12) (sym (add-one i)) in
+    let there : 12 + 1 * i ≡ 12 + i = omega arith in
+    let more =
+    ap (λ (p : ℕ). bytesAt i bytes 12 ++ (getD bytes p 0 ∷ [])) (sym there)
+    ∙ sym (fields-suc (λ (p : ℕ). getD bytes p 0) 1 i 12) ∙ ap (λ (k : ℕ). bytesAt k bytes 12) (sym (add-one i)) in
     ap (λ (k : ℕ). set (bytesAt i bytes 12 ++ replicate k 0) i byte) first
-    ∙ set-at (bytesAt i bytes 12) 0 (replicate (254 - i) 0) byte i (length-bytes-at i bytes 12)
+    ∙ set-at (bytesAt i bytes 12) 0 (replicate (254 - i) 0) byte i (fields-length (λ (p : ℕ). getD bytes p 0) 1 i 12)
     ∙ ap (λ (b : ℕ). bytesAt i bytes 12 ++ b ∷ replicate (254 - i) 0) e
     ∙ ap (λ (k : ℕ). bytesAt i bytes 12 ++ getD bytes (12 + i) 0 ∷ replicate k 0) rest
     ∙ sym (append-snoc (bytesAt i bytes 12) (getD bytes (12 + i) 0) (replicate (255 - (i + 1)) 0))

@@ -1,4 +1,4 @@
--- `trial_step::trial_step` meets its contract: the test is the definition's, and each arm knows what the record asks
+-- `trial_step::trial_step` meets its contract: the tests are the definition's, and each arm knows what the record asks
 -- for. Assumes nothing.
 use Prim.Native.Nat.{ℕ}
 use mathlib.Core.Path.{_≡_, sym, subst, _∙_}
@@ -14,7 +14,8 @@ use Rattle.bench_record.specs.Record.{askedBy}
 use Rattle.bench_record.specs.Step.{Ended, Answered}
 use Rattle.bench_record.proofs.step.Laws.{bad-stepped, call-stepped}
 use Rattle.trial_step.specs.TrialLine.{trialLine}
-use Rattle.trial_step.specs.Item.{isSettings}
+use Rattle.trial_step.specs.Queue.{QueueStepped}
+use Rattle.trial_step.specs.Item.{isSettings, holdsQueue}
 use Rattle.trial_step.specs.Step.{givenFrame, lentBuffer, Renewed, ItemStepped, TrialStepped}
 use Rattle.trial_step.proofs.trial_step.Statement.{statement}
 use Rattle.trial_step.proofs.trial_step.Tie as tie
@@ -22,22 +23,25 @@ use Rattle.trial_step.proofs.trial_step.Tie as tie
 module _ (n : Node) (item : ℕ) (bytes : List ℕ) (at : ℕ) (before : List ℕ) {r : Step} {after : List ℕ} where
   renewed :
       isSettings bytes ≡ true → Renewed item bytes at before r after → TrialStepped n item bytes at before r after
-  renewed e p = subst (λ b. ItemStepped b n item bytes at before r after) (sym e) p
+  renewed e p = subst (λ b. ItemStepped b (holdsQueue bytes) n item bytes at before r after) (sym e) p
+
+  queued :
+      isSettings bytes ≡ false → holdsQueue bytes ≡ true → QueueStepped n item bytes at before r after →
+      TrialStepped n item bytes at before r after
+  queued e f p = rw (e, f) p
 
   bad :
-      isSettings bytes ≡ false → askedBy bytes ≡ Bad → Ended n item at before r after →
+      isSettings bytes ≡ false → holdsQueue bytes ≡ false → askedBy bytes ≡ Bad → Ended n item at before r after →
       TrialStepped n item bytes at before r after
-  bad e f p =
-      subst (λ b. ItemStepped b n item bytes at before r after) (sym e)
-      (bad-stepped (trialLine item) (givenFrame bytes) (lentBuffer bytes) n item f p)
+  bad e f g p =
+      rw (e, f) (bad-stepped (trialLine item) (givenFrame bytes) (lentBuffer bytes) n item g p)
 
   asked :
-      {q : Request} → isSettings bytes ≡ false → askedBy bytes ≡ Call q →
+      {q : Request} → isSettings bytes ≡ false → holdsQueue bytes ≡ false → askedBy bytes ≡ Call q →
       Answered (trialLine item) n q (givenFrame bytes) (lentBuffer bytes q) at before r after →
       TrialStepped n item bytes at before r after
-  asked e f p =
-      subst (λ b. ItemStepped b n item bytes at before r after) (sym e)
-      (call-stepped (trialLine item) (givenFrame bytes) (lentBuffer bytes) n item f p)
+  asked e f g p =
+      rw (e, f) (call-stepped (trialLine item) (givenFrame bytes) (lentBuffer bytes) n item g p)
 
 is-settings-requires : tie.Need-is-settings-requires
 is-settings-requires c κs = search needs
@@ -58,6 +62,28 @@ returns c =
     (sym (test .is-settings .ensures) ∙ then .if1 .taken)
     (wrote .renew .ensures)
 
+holds-queue-requires : tie.Need-holds-queue-requires
+holds-queue-requires c κs = search needs
+
+take-queue-requires : tie.Need-take-queue-requires
+take-queue-requires c κs = search needs
+
+same-length-2 : tie.Need-same-length-2
+same-length-2 c = search needs
+
+returns-2 : tie.Need-returns-2
+returns-2 c =
+    let wrote = c .before .before in
+    let then = wrote .before .before in
+    let second = then .before in
+    let else = second .before in
+    let test = else .before in
+    let a = test .before .before .before .args in
+    queued (a .node) (a .item) (now (a .bytes)) (a .at) (now (a .out))
+    (sym (test .is-settings .ensures) ∙ else .if1 .left)
+    (sym (second .holds-queue .ensures) ∙ then .if2 .taken)
+    (wrote .take-queue .ensures)
+
 asked-by-requires : tie.Need-asked-by-requires
 asked-by-requires c κs = search needs
 
@@ -73,35 +99,41 @@ enum-known-request c = search needs
 ask-requires : tie.Need-ask-requires
 ask-requires c κs = search needs
 
-same-length-2 : tie.Need-same-length-2
-same-length-2 c = search needs
-
-returns-2 : tie.Need-returns-2
-returns-2 c =
-    let wrote = c .before .before in
-    let arm = wrote .before .before in
-    let read = arm .before .before in
-    let else = read .before in
-    let test = else .before in
-    let a = test .before .before .before .args in
-    bad (a .node) (a .item) (now (a .bytes)) (a .at) (now (a .out))
-    (sym (test .is-settings .ensures) ∙ else .if1 .left)
-    (sym (read .asked-by .ensures) ∙ arm .enum-told .given .1)
-    (wrote .bad-record .ensures)
-
 same-length-3 : tie.Need-same-length-3
 same-length-3 c = search needs
 
 returns-3 : tie.Need-returns-3
 returns-3 c =
+    let wrote = c .before .before in
+    let arm = wrote .before .before in
+    let read = arm .before .before in
+    let none = read .before in
+    let second = none .before in
+    let else = second .before in
+    let test = else .before in
+    let a = test .before .before .before .args in
+    bad (a .node) (a .item) (now (a .bytes)) (a .at) (now (a .out))
+    (sym (test .is-settings .ensures) ∙ else .if1 .left)
+    (sym (second .holds-queue .ensures) ∙ none .if2 .left)
+    (sym (read .asked-by .ensures) ∙ arm .enum-told .given .1)
+    (wrote .bad-record .ensures)
+
+same-length-4 : tie.Need-same-length-4
+same-length-4 c = search needs
+
+returns-4 : tie.Need-returns-4
+returns-4 c =
     let answered = c .before .before in
     let arm = answered .before .before .before in
     let read = arm .before .before in
-    let else = read .before in
+    let none = read .before in
+    let second = none .before in
+    let else = second .before in
     let test = else .before in
     let a = test .before .before .before .args in
     asked (a .node) (a .item) (now (a .bytes)) (a .at) (now (a .out))
     (sym (test .is-settings .ensures) ∙ else .if1 .left)
+    (sym (second .holds-queue .ensures) ∙ none .if2 .left)
     (sym (read .asked-by .ensures) ∙ arm .request .given .1)
     (answered .ask .ensures)
 
@@ -113,12 +145,16 @@ trial-step-spec =
     renew-requires
     same-length
     returns
+    holds-queue-requires
+    take-queue-requires
+    same-length-2
+    returns-2
     asked-by-requires
     enum-told
     bad-record-requires
     enum-known-request
     ask-requires
-    same-length-2
-    returns-2
     same-length-3
-    returns-3)
+    returns-3
+    same-length-4
+    returns-4)

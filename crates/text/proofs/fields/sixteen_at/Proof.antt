@@ -1,17 +1,15 @@
 -- `text::fields::sixteen_at` meets its contract. The invariant: the first i bytes of the list are the i
--- bytes from the place on, and a turn is `bytes-at-suc`. The measure is what is left of the 16.
+-- bytes from the place on, and a turn is `fields-put`. The measure is what is left of the 16.
 -- Assumes nothing.
-use Prim.Native.Nat.{ℕ, _+_, _-_, _≤_, _<_}
+use Prim.Native.Nat.{ℕ, _-_, _≤_}
 use mathlib.Core.Path.{_≡_, sym, ap, _∙_}
-use mathlib.Core.List.{List, [], _∷_, _++_}
-use native.Mathlib.Numerals.{add-one}
 use native.Mathlib.Omega.{arith}
-use lib.ListN.{length, getD, take, set, length-set}
-use lib.Seq.{take-suc-set, take-all}
+use lib.ListN.{length, getD, take, length-set}
+use lib.Seq.{take-all}
 use denote.Ref.{now}
 use borrow.Author.Needs.{needs}
 use Rattle.text.specs.Fields.{bytesAt}
-use Rattle.text.proofs.fields.Laws.{bytes-at-suc}
+use Rattle.text.proofs.fields.Laws.{fields-put}
 use Rattle.text.proofs.fields.sixteen_at.Statement.{statement}
 use Rattle.text.proofs.fields.sixteen_at.Tie as tie
 
@@ -20,16 +18,6 @@ Inv-loop bytes at list₀ i₀ list i = (i ≤ 16) × (length list ≡ 16) × (t
 
 abbrev μ-loop : tie.MeasureT-loop
 μ-loop bytes at list₀ i₀ list i = 16 - i
-
-on :
-    (bytes list : List ℕ) (at i byte : ℕ) → i < length list → byte ≡ getD bytes (at + i) 0 →
-    take i list ≡ bytesAt i bytes at → take (i + 1) (set list i byte) ≡ bytesAt (i + 1) bytes at
-on bytes list at i byte h e before =
-    rw add-one
-    (take-suc-set list i byte h
-    ∙ ap (λ (l : List ℕ). l ++ (byte ∷ [])) before
-    ∙ ap (λ (b : ℕ). bytesAt i bytes at ++ (b ∷ [])) e
-    ∙ sym (bytes-at-suc i bytes at))
 
 loop-holds : tie.Need-loop-holds Inv-loop μ-loop
 loop-holds c = (omega arith, search needs, search needs)
@@ -55,8 +43,8 @@ loop-again c =
     let args = at .before .before .args in (
       omega arith,
       simp length-set (at .loop .inv .1),
-      on (now (args .bytes)) (at .loop .list) (args .at) (at .loop .i) (c .byte-at .result)
-          (omega arith) (search needs) (at .loop .inv .2),
+      fields-put (λ (p : ℕ). getD (now (args .bytes)) p 0) 1 (at .loop .list) (at .loop .i) (args .at) _ _
+          (omega arith) (omega arith) (c .byte-at .ensures) (at .loop .inv .2),
     )
 
 returns : tie.Need-returns Inv-loop μ-loop

@@ -1,39 +1,24 @@
 -- `trial_step::block::domains_of` meets its contract. The invariant: the first d domains are those of
--- `domainsFrom`, and a turn is `domains-from-suc`. The measure is what is left of the 16.
+-- `domainsOf`, and a turn is `fields-put`. The measure is what is left of the 16.
 -- Assumes nothing.
-use Prim.Native.Nat.{ℕ, _+_, _-_, _≤_, _<_}
+use Prim.Native.Nat.{ℕ, _-_, _≤_}
 use mathlib.Core.Path.{_≡_, refl, sym, ap, _∙_}
-use mathlib.Core.List.{List, [], _∷_, _++_}
-use native.Mathlib.Numerals.{add-one}
 use native.Mathlib.Omega.{arith}
-use lib.ListN.{length, take, set, length-set}
-use lib.Seq.{take-suc-set, take-all}
+use lib.ListN.{length, take, length-set}
+use lib.Seq.{take-all}
 use denote.Ref.{now}
 use borrow.Author.Needs.{needs}
-use Rattle.settings.specs.declared.domain_settings.DomainSettings.{DomainSettings}
-use Rattle.trial_step.specs.Block.{oneOf, domainsFrom}
-use Rattle.trial_step.proofs.block.Laws.{domains-from-suc}
+use Rattle.text.proofs.fields.Laws.{fields-put}
+use Rattle.trial_step.specs.Block.{oneOf, domainsOf}
 use Rattle.trial_step.proofs.block.domains_of.Statement.{statement}
 use Rattle.trial_step.proofs.block.domains_of.Tie as tie
 
 abbrev Inv-loop : tie.InvT-loop
 Inv-loop item blocks domains₀ d₀ domains d =
-    (d ≤ 16) × (length domains ≡ 16) × (take d domains ≡ domainsFrom d blocks item 0)
+    (d ≤ 16) × (length domains ≡ 16) × (take d domains ≡ domainsOf d blocks item)
 
 abbrev μ-loop : tie.MeasureT-loop
 μ-loop item blocks domains₀ d₀ domains d = 16 - d
-
-on :
-    (item : List ℕ) (domains : List DomainSettings) (blocks d : ℕ) (one : DomainSettings) → d < length domains →
-    one ≡ oneOf blocks item d → take d domains ≡ domainsFrom d blocks item 0 →
-    take (d + 1) (set domains d one) ≡ domainsFrom (d + 1) blocks item 0
-on item domains blocks d one h e before =
-    let here : d ≡ 0 + d = omega arith in
-    rw add-one
-    (take-suc-set domains d one h
-    ∙ ap (λ (l : List DomainSettings). l ++ (one ∷ [])) before
-    ∙ ap (λ (s : DomainSettings). domainsFrom d blocks item 0 ++ (s ∷ [])) (e ∙ ap (oneOf blocks item) here)
-    ∙ sym (domains-from-suc d blocks item 0))
 
 absent-requires : tie.Need-absent-requires Inv-loop μ-loop
 absent-requires c κs = search needs
@@ -65,10 +50,8 @@ loop-again c =
     let args = at .before .before .before .args in (
       omega arith,
       simp length-set (at .loop .inv .1),
-      on (now (args .item)) (at .loop .domains) (args .blocks) (at .loop .d) _
-          (omega (arith, at .loop .inv .1))
-          (c .one-of .ensures)
-          (at .loop .inv .2),
+      fields-put (oneOf (args .blocks) (now (args .item))) 1 (at .loop .domains) (at .loop .d) 0 _ _
+          (omega (arith, at .loop .inv .1)) (omega arith) (c .one-of .ensures) (at .loop .inv .2),
     )
 
 returns : tie.Need-returns Inv-loop μ-loop
@@ -77,7 +60,7 @@ returns c =
     let args = at .before .before .before .args in
     let all : at .loop .d ≡ 16 = omega arith in
     sym (take-all (at .loop .d) (at .loop .domains) (omega (arith, at .loop .inv .1))) ∙ at .loop .inv .2
-    ∙ ap (λ (k : ℕ). domainsFrom k (args .blocks) (now (args .item)) 0) all
+    ∙ ap (λ (k : ℕ). domainsOf k (args .blocks) (now (args .item))) all
 
 pub domains-of-spec : {M : Type 1} → statement M
 domains-of-spec =

@@ -1,0 +1,2 @@
+-- The laws of `trial_step::queue`.
+pub mod Laws
