@@ -2,10 +2,12 @@
 --   demand-one   every call answers by its tests, and a refusal leaves the node and every lent byte
 --   demand-two   what is sent is read back, and what is accepted is written back
 -- Assumes nothing.
+use Rattle.node_queue.proofs.Laws.{queue-refusal-keeps}
 use Rattle.node_laws.specs.Demands.{DemandOne, DemandTwo}
 use Rattle.node_laws.proofs.Laws.{refusal-keeps, refusal-keeps-bytes}
 use Rattle.node_laws.proofs.Order.{order, new-order}
 use Rattle.node_laws.proofs.Refused.{refused-zeros}
+use Rattle.node_laws.proofs.Queue.{queue-order}
 use Rattle.node_laws.proofs.Reachable.{sync-back, fup-back}
 use Rattle.node_laws.proofs.Cycles.{cycle-whole}
 use Rattle.node_laws.proofs.Accepted.{accepted-back}
@@ -18,6 +20,8 @@ demand-one =
       zeros = refused-zeros;
       state = refusal-keeps;
       bytes = λ n c e. refusal-keeps-bytes n c e .0;
+      queue-number = queue-order;
+      queue-keeps = queue-refusal-keeps;
     }
 
 pub demand-two : DemandTwo

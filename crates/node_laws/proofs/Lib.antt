@@ -19,7 +19,8 @@ pub mod Roles
 pub mod Cycles
 pub mod ReadBack
 pub mod Accepted
-pub mod Demands
 pub mod Cases
 pub mod Witness
+pub mod Queue
+pub mod Demands
 pub mod Caps

@@ -17,9 +17,11 @@ use Rattle.node.specs.New.{newOf}
 use Rattle.node.specs.Cycle.{goneFrom}
 use Rattle.node.specs.Confirm.{nodeConfirmOf, confirmedBytes}
 use Rattle.node_call.specs.Calls.{Call, cycle, nodeAfter, sends, answerTo, numberIn, lentTo, lentAfter}
+use Rattle.node_queue.specs.declared.NodeQueue.{NodeQueue}
+use Rattle.node_queue.specs.Queue.{queueNumber, QueuedIn}
 use Rattle.node_laws.specs.Reachable.{Reachable}
 use Rattle.node_laws.specs.Due.{dueCount}
-use Rattle.node_laws.specs.Tests.{firstOf, testsOf, newTests}
+use Rattle.node_laws.specs.Tests.{firstOf, testsOf, queueTests, newTests}
 use Rattle.node_laws.specs.Refused.{IsRefused, refusedBy}
 use Rattle.node_laws.specs.Back.{joined, SyncBack, AcceptedBack}
 
@@ -31,6 +33,12 @@ pub record DemandOne : Type 0 where
   pub zeros : (n : Node) (c : Call) → IsRefused n c → answerTo n c ≡ refusedBy (numberIn (answerTo n c)) c
   pub state : (n : Node) (c : Call) → IsRefused n c → nodeAfter n c ≡ n
   pub bytes : (n : Node) (c : Call) → IsRefused n c → lentAfter (answerTo n c) ≡ lentTo c
+  pub queue-number :
+      (n : Node) (ts fs before : List ℕ) (r : NodeQueue) (after : List ℕ) → QueuedIn n ts fs before r after →
+      queueNumber (r .answer) ≡ firstOf (queueTests ts fs before)
+  pub queue-keeps :
+      (n : Node) (ts fs before : List ℕ) (r : NodeQueue) (after : List ℕ) → QueuedIn n ts fs before r after →
+      (queueNumber (r .answer) ≡ 0 → ⊥) → (r .node ≡ n) × (after ≡ before)
 
 -- ---- the frames of a main cycle that is not refused stand one after another in its buffer, the rest of which stays
 abbrev pub SyncsStand : Node → VirtualLocalTime → (out : List ℕ) → Type 0

@@ -1,6 +1,6 @@
 -- Paper 01, "Refusal numbers": "0 is success. The call tests in the order of the numbers, as far as each concerns
 -- it." For each call its tests in that order, each with the number that it gives. Assumes nothing.
-use Prim.Native.Nat.{ℕ, _%_}
+use Prim.Native.Nat.{ℕ, _*_, _%_}
 use mathlib.Core.Bool.{Bool, true, false, not, cond, _&&_}
 use mathlib.Core.List.{List, [], _∷_}
 use lib.Dec.{leb, eqb}
@@ -144,6 +144,15 @@ confirmTests n domain t counter out =
     ∷ (4, notFor d domain Master)
     ∷ (11, noOpenSync (d .settings .«confirmation_time») (d .sending) t counter)
     ∷ (12, not (leb 8 (length out)))
+    ∷ []
+
+-- ---- A queue (paper 02, request 4): 12 "first, if the answer buffer is shorter than the number of readings; then 2 if
+-- that number is above 32 or the frame bytes aren't eight times it".
+abbrev pub queueTests : (readings frames answers : List ℕ) → Tests
+queueTests readings frames answers =
+    (12, not (leb (length readings) (length answers)))
+    ∷ (2, not (leb (length readings) 32))
+    ∷ (2, not (eqb (length frames) (8 * length readings)))
     ∷ []
 
 -- ---- `new`: 14 "settings out of range".

