@@ -1,21 +1,17 @@
 -- What the promise of `on_queue` says, in the request's words. No contract cites this file.
---   is-taken              what is taken has room for its numbers, at most 32 readings, and eight bytes for each
---   queue-zero            and what has these is taken
---   queue-numbers         the byte at place i is the number of frame call i on the node after the i calls before it
+--   queue-zero            a queue with room for its numbers, at most 32 readings and eight bytes for each is taken
 --   queue-stays           the bytes beyond the readings are as they were
+--   queue-numbers         the byte at place i is the number of frame call i on the node after the i calls before it
 --   queue-refusal-keeps   a refused queue leaves the node and every byte as they were
 --   queue-one             a queue of one frame is the frame call
 -- Assumes nothing.
 use Prim.Native.Nat.{ℕ, zero, suc, _+_, _*_, _≤_, _<_}
 use mathlib.Core.Path.{_≡_, refl, sym, ap, _∙_}
-use mathlib.Core.Bool.{true}
 use mathlib.Core.List.{List, [], _∷_, _++_, map}
 use native.Mathlib.Omega.{arith}
-use lib.Dec.{leb, eqb}
 use lib.ListN.{length, getD, take, drop, length-map}
 use lib.Seq.{drop-drop, drop-at, take-all}
-use borrow.Author.Tests.{le-leb, leb-true, eq-eqb, eqb-true}
-use Rattle.promise.proofs.Tests.{both, either-told}
+use borrow.Author.Tests.{le-leb, eq-eqb}
 use Rattle.clock.specs.declared.reading.VirtualLocalTime.{VirtualLocalTime}
 use Rattle.node.specs.declared.Node.{Node}
 use Rattle.node_call.specs.Calls.{Call, frame, nodeAfter, answerTo, numberIn, answersTo, nodeAfterAll}
@@ -26,45 +22,11 @@ use Rattle.node_queue.specs.Queue.{
   queueCalls,
   callAt,
   queueNumbers,
-  isQueue,
-  queueAnswer,
   queueNumber,
   queueNode,
   queueBytes,
   QueuedIn,
 }
-
--- ---- what a queue is
-is-queue : (readings bytes : ℕ) → isQueue readings bytes ≡ true → (readings ≤ 32) × (bytes ≡ 8 * readings)
-is-queue readings bytes e =
-    let told = both (leb readings 32) (eqb bytes (8 * readings)) e in
-    (leb-true readings 32 (told .0), eqb-true bytes (8 * readings) (told .1))
-
-abbrev Fits : (readings bytes room : ℕ) → Type 0
-Fits readings bytes room = (readings ≤ room) × (readings ≤ 32) × (bytes ≡ 8 * readings)
-
-pub is-taken : (readings bytes room : ℕ) → queueAnswer readings bytes room ≡ Taken → Fits readings bytes room
-is-taken readings bytes room =
-    let By : QueueAnswer → Type 0 = λ a. a ≡ Taken → Fits readings bytes room in
-    either-told By (leb readings room)
-    (λ h. either-told By (isQueue readings bytes)
-    (λ q e. (leb-true readings room h, is-queue readings bytes q .0, is-queue readings bytes q .1))
-    (λ q e. absurd (omega (arith, ap queueNumber e))))
-    (λ h e. absurd (omega (arith, ap queueNumber e)))
-
--- ---- as many numbers as readings
-
-answers-length : (n : Node) (cs : List Call) → length (answersTo n cs) ≡ length cs
-answers-length n [] = refl
-answers-length n (c ∷ rest) = ap suc (answers-length (nodeAfter n c) rest)
-
-calls-length : (ts fs : List ℕ) → length (queueCalls ts fs) ≡ length ts
-calls-length [] fs = refl
-calls-length (t ∷ ts) fs = ap suc (calls-length ts (drop 8 fs))
-
-numbers-length : (n : Node) (ts fs : List ℕ) → length (queueNumbers n ts fs) ≡ length ts
-numbers-length n ts fs =
-    length-map (answersTo n (queueCalls ts fs)) numberIn ∙ answers-length n (queueCalls ts fs) ∙ calls-length ts fs
 
 -- ---- each at its place
 
@@ -82,6 +44,20 @@ number-at n (t ∷ ts) fs rest (suc i) d h =
     ∙ ap (λ (l : List ℕ). numberIn (answerTo before (frame (record { 0 = getD ts i 0 }) (take 8 l))))
     (drop-drop (8 * i) 8 fs ∙ ap (λ (k : ℕ). drop k fs) behind)
 
+-- ---- as many numbers as readings
+
+answers-length : (n : Node) (cs : List Call) → length (answersTo n cs) ≡ length cs
+answers-length n [] = refl
+answers-length n (c ∷ rest) = ap suc (answers-length (nodeAfter n c) rest)
+
+calls-length : (ts fs : List ℕ) → length (queueCalls ts fs) ≡ length ts
+calls-length [] fs = refl
+calls-length (t ∷ ts) fs = ap suc (calls-length ts (drop 8 fs))
+
+numbers-length : (n : Node) (ts fs : List ℕ) → length (queueNumbers n ts fs) ≡ length ts
+numbers-length n ts fs =
+    length-map (answersTo n (queueCalls ts fs)) numberIn ∙ answers-length n (queueCalls ts fs) ∙ calls-length ts fs
+
 module _ (n : Node) (ts fs before : List ℕ) (r : NodeQueue) (after : List ℕ) (q : QueuedIn n ts fs before r after) where
   -- the node and the bytes, by another name for the answer
   node-by : {a : QueueAnswer} → r .answer ≡ a → r .node ≡ queueNode a n ts fs
@@ -95,12 +71,6 @@ module _ (n : Node) (ts fs before : List ℕ) (r : NodeQueue) (after : List ℕ)
       q .answer
       ∙ rw (le-leb (length ts) (length before) room, le-leb (length ts) 32 most, eq-eqb (length fs) (8 * length ts) eight)
 
-  pub queue-numbers :
-      r .answer ≡ Taken → (i d : ℕ) → i < length ts →
-      getD after i d ≡ numberIn (answerTo (nodeAfterAll n (queueCalls (take i ts) fs)) (callAt ts fs i))
-  queue-numbers e i d h =
-      ap (λ (l : List ℕ). getD l i d) (bytes-by e) ∙ number-at n ts fs (drop (length ts) before) i d h
-
   pub queue-stays : drop (length ts) after ≡ drop (length ts) before
   queue-stays = by (r .answer) refl
     where
@@ -109,6 +79,12 @@ module _ (n : Node) (ts fs before : List ℕ) (r : NodeQueue) (after : List ℕ)
           ap (drop (length ts)) (bytes-by e)
           ∙ drop-at (queueNumbers n ts fs) (drop (length ts) before) (length ts) (numbers-length n ts fs)
       by (Refused refusal) e = ap (drop (length ts)) (bytes-by e)
+
+  pub queue-numbers :
+      r .answer ≡ Taken → (i d : ℕ) → i < length ts →
+      getD after i d ≡ numberIn (answerTo (nodeAfterAll n (queueCalls (take i ts) fs)) (callAt ts fs i))
+  queue-numbers e i d h =
+      ap (λ (l : List ℕ). getD l i d) (bytes-by e) ∙ number-at n ts fs (drop (length ts) before) i d h
 
   pub queue-refusal-keeps : (queueNumber (r .answer) ≡ 0 → ⊥) → (r .node ≡ n) × (after ≡ before)
   queue-refusal-keeps refused = by (r .answer) refl
