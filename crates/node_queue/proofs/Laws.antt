@@ -6,13 +6,12 @@
 --   queue-one             a queue of one frame is the frame call
 -- Assumes nothing.
 use Prim.Native.Nat.{ℕ, zero, suc, _+_, _*_, _≤_, _<_}
-use mathlib.Core.Path.{_≡_, refl, sym, ap, _∙_}
-use mathlib.Core.List.{List, [], _∷_, _++_, map}
+use mathlib.Core.Path.{_≡_, refl, ap, _∙_}
+use mathlib.Core.List.{List, [], _∷_, _++_}
 use native.Mathlib.Omega.{arith}
 use lib.ListN.{length, getD, take, drop, length-map}
 use lib.Seq.{drop-drop, drop-at, take-all}
 use borrow.Author.Tests.{le-leb, eq-eqb}
-use Rattle.clock.specs.declared.reading.VirtualLocalTime.{VirtualLocalTime}
 use Rattle.node.specs.declared.Node.{Node}
 use Rattle.node_call.specs.Calls.{Call, frame, nodeAfter, answerTo, numberIn, answersTo, nodeAfterAll}
 use Rattle.node_queue.specs.declared.QueueAnswer.{QueueAnswer}

@@ -3,16 +3,15 @@
 --   onward   and still after one frame
 --   at-end   so that with none left the queue is taken
 -- Assumes nothing.
-use Prim.Native.Nat.{ℕ, suc, _+_, _*_, _≤_, _<_}
-use mathlib.Core.Path.{_≡_, refl, sym, ap, _∙_}
+use Prim.Native.Nat.{ℕ, _+_, _*_, _<_}
+use mathlib.Core.Path.{_≡_, sym, ap, _∙_}
 use mathlib.Core.List.{List, [], _∷_, _++_, map, append-nil}
 use native.Mathlib.Numerals.{add-one}
 use native.Mathlib.Omega.{arith}
-use lib.ListN.{length, getD, set, take, drop, take-append-drop}
+use lib.ListN.{length, set, take, drop, take-append-drop}
 use lib.Seq.{append-snoc, drop-cons, drop-drop, drop-length, drop-set-lt, take-suc-set}
-use Rattle.clock.specs.declared.reading.VirtualLocalTime.{VirtualLocalTime}
 use Rattle.node.specs.declared.Node.{Node}
-use Rattle.node_call.specs.Calls.{Call, frame, nodeAfter, answerTo, numberIn, answersTo, nodeAfterAll}
+use Rattle.node_call.specs.Calls.{Call, nodeAfter, answerTo, numberIn, answersTo, nodeAfterAll}
 use Rattle.node_queue.specs.Queue.{queueCalls, callAt, queueNumbers, queueAnswer, queueNode, queueBytes, QueuedIn}
 use Rattle.node_queue.specs.declared.QueueAnswer.the-variants.{Taken}
 

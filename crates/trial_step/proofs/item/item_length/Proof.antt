@@ -1,7 +1,5 @@
 -- `trial_step::item::item_length` meets its contract: the tests are the definition's. Assumes nothing.
 use mathlib.Core.Path.{sym, _∙_}
-use native.Mathlib.Nat.{min-le-right}
-use native.Mathlib.Omega.{arith}
 use borrow.Author.Needs.{needs}
 use Rattle.trial_step.proofs.item.item_length.Statement.{statement}
 use Rattle.trial_step.proofs.item.item_length.Tie as tie

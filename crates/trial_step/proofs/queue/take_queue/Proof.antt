@@ -1,9 +1,9 @@
 -- `trial_step::queue::take_queue` meets its contract: the lent parts are the item's readings, its frame bytes and a
 -- buffer of A5s. Assumes nothing.
 use Prim.Native.Nat.{ℕ, _+_, _-_, _*_, _≤_, min}
-use mathlib.Core.Path.{_≡_, refl, sym, ap, subst, _∙_}
+use mathlib.Core.Path.{_≡_, sym, ap, subst, _∙_}
 use mathlib.Core.List.{List}
-use native.Mathlib.Nat.{min-le-left, min-le-right}
+use native.Mathlib.Nat.{min-le-right}
 use native.Mathlib.Omega.{arith}
 use lib.ListN.{length, getD, take, drop, replicate}
 use lib.Seq.{length-take-le}
