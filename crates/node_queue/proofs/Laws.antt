@@ -68,7 +68,11 @@ module _ (n : Node) (ts fs before : List ℕ) (r : NodeQueue) (after : List ℕ)
   pub queue-zero : length ts ≤ length before → length ts ≤ 32 → length fs ≡ 8 * length ts → r .answer ≡ Taken
   queue-zero room most eight =
       q .answer
-      ∙ rw (le-leb (length ts) (length before) room, le-leb (length ts) 32 most, eq-eqb (length fs) (8 * length ts) eight)
+      ∙ rw (
+        le-leb (length ts) (length before) room,
+        le-leb (length ts) 32 most,
+        eq-eqb (length fs) (8 * length ts) eight,
+      )
 
   pub queue-stays : drop (length ts) after ≡ drop (length ts) before
   queue-stays = by (r .answer) refl
@@ -101,7 +105,8 @@ queue-one n t fs before r after q eight room d =
     let taken = queue-zero n (t ∷ []) fs before r after q (omega (arith, room)) (omega arith) (omega (arith, eight)) in
     let whole = take-all 8 fs (omega (arith, eight)) in (
       taken,
-      node-by n (t ∷ []) fs before r after q taken ∙ ap (λ (l : List ℕ). nodeAfter n (frame (record { 0 = t }) l)) whole,
+      node-by n (t ∷ []) fs before r after q taken
+          ∙ ap (λ (l : List ℕ). nodeAfter n (frame (record { 0 = t }) l)) whole,
       queue-numbers n (t ∷ []) fs before r after q taken 0 d (omega arith)
           ∙ ap (λ (l : List ℕ). numberIn (answerTo n (frame (record { 0 = t }) l))) whole,
     )

@@ -58,7 +58,8 @@ module _ (whole : Node) (filled ts fs : List ℕ) (i : ℕ) (n : Node) (out : Li
         bytes =
             (λ k. written k ++ map numberIn (answersTo n′ behind) ++ drop-set-lt (length ts) out i b h k)
             ∙ ap (λ (l : List ℕ). l ++ drop (length ts) out)
-            (append-snoc (take i out) b (map numberIn (answersTo n′ behind)) ∙ ap (λ (l : List ℕ). take i out ++ l) numbers)
+            (append-snoc (take i out) b (map numberIn (answersTo n′ behind))
+            ∙ ap (λ (l : List ℕ). take i out ++ l) numbers)
             ∙ r .bytes;
       }
 

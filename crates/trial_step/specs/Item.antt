@@ -15,8 +15,8 @@ abbrev pub holdsQueue : List ℕ → Bool
 holdsQueue item =
     cond (eqb (getD item 0 0) 0xC7) (cond (eqb (getD item 1 0) 0x3A) (eqb (getD item 2 0) 6) false) false
 
--- ---- A settings block has n blocks of 128 bytes, a queue n readings of 8 bytes and its frame bytes behind 20 bytes, any
--- other record 20 bytes.
+-- ---- A settings block has n blocks of 128 bytes, a queue n readings of 8 bytes and its frame bytes behind 20 bytes,
+-- any other record 20 bytes.
 abbrev pub itemLength : List ℕ → ℕ
 itemLength bytes =
     cond (isSettings bytes) (4 + 128 * getD bytes 3 0)

@@ -1,5 +1,5 @@
--- A node's frame call by its parts: the domain that the bytes name, the record looked up at its place, and what the call
--- of that record gives, stored there. No contract cites this file.
+-- A node's frame call by its parts: the domain that the bytes name, the record looked up at its place, and what the
+-- call of that record gives, stored there. No contract cites this file.
 -- Assumes nothing.
 use Prim.Native.Nat.{ℕ, _%_}
 use mathlib.Core.Path.{_≡_, ap, _∙_}

@@ -154,11 +154,13 @@ loop-again c =
     let inv = turn .loop .inv in
     let eight : 8 * i + 8 - 8 * i ≡ 8 = omega arith in
     let stored =
-    frame-stored n (record { 0 = getD (now (a .readings)) i 0 }) (take (8 * i + 8 - 8 * i) (drop (8 * i) (now (a .frames))))
+    frame-stored n (record { 0 = getD (now (a .readings)) i 0 })
+    (take (8 * i + 8 - 8 * i) (drop (8 * i) (now (a .frames))))
     (named .named-domain .ensures)
     (getD-any (n .domains) _ _ _ (omega (arith, inv .5)))
     (called .frame-call .ensures)
-    ∙ ap (λ (k : ℕ). nodeFrameOf n (record { 0 = getD (now (a .readings)) i 0 }) (take k (drop (8 * i) (now (a .frames))))) eight
+    ∙ ap (λ (k : ℕ).
+    nodeFrameOf n (record { 0 = getD (now (a .readings)) i 0 }) (take k (drop (8 * i) (now (a .frames))))) eight
     in (
       omega arith,
       inv .1,

@@ -60,7 +60,8 @@ values-fit (Confirm answer) buffer h = omega (arith, buffer-fits buffer h)
 pub line-fits :
     (item : ℕ) (answer : CallAnswer) (buffer : List ℕ) → length buffer ≤ 512 →
     length (trialLine item answer buffer) ≤ 1088
-line-fits item answer buffer h = with-fits item (callNumber answer) (trialValues answer buffer) (values-fit answer buffer h)
+line-fits item answer buffer h =
+    with-fits item (callNumber answer) (trialValues answer buffer) (values-fit answer buffer h)
 
 pub queue-line-fits :
     (item : ℕ) (answer : QueueAnswer) (buffer : List ℕ) → length buffer ≤ 512 →

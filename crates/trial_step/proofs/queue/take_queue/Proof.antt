@@ -24,8 +24,8 @@ taken :
     count ≡ getD bytes 3 0 → count ≤ 255 → readings ≡ longsAt 255 bytes 20 →
     start ≡ min (20 + 8 * count) (length bytes) → more ≡ min (frameBytes bytes) (length bytes - start) →
     room ≡ min (pairAt bytes 12) 512 →
-    Queued n item (take count readings) (take (start + more - start) (drop start bytes)) (take room (replicate 512 0xA5)) at before r
-    after →
+    Queued n item (take count readings) (take (start + more - start) (drop start bytes))
+    (take room (replicate 512 0xA5)) at before r after →
     QueueStepped n item bytes at before r after
 taken n item bytes {readings} {before} {after} {count} {start} {more} {room} {at} {r} c m rs s e b q =
     let ts : take count readings ≡ givenReadings bytes =
@@ -41,8 +41,9 @@ taken n item bytes {readings} {before} {after} {count} {start} {more} {room} {at
     in
     subst (λ xs. Queued n item (givenReadings bytes) (givenFrames bytes) xs at before r after) lent
     (subst (λ xs. Queued n item (givenReadings bytes) xs (take room (replicate 512 0xA5)) at before r after) fs
-    (subst (λ xs. Queued n item xs (take (start + more - start) (drop start bytes)) (take room (replicate 512 0xA5)) at before r
-    after) ts q))
+    (subst (λ xs.
+    Queued n item xs (take (start + more - start) (drop start bytes)) (take room (replicate 512 0xA5)) at before r after)
+    ts q))
 
 byte-at-requires : tie.Need-byte-at-requires
 byte-at-requires c κs = search needs
@@ -135,7 +136,8 @@ returns c =
     (omega arith)
     (made .readings-of .ensures)
     (start .least .ensures)
-    (more .least2 .ensures ∙ ap (λ (k : ℕ). min k (length (now (a .bytes)) - start .least .result)) (frames .frame-bytes .ensures))
+    (more .least2 .ensures
+    ∙ ap (λ (k : ℕ). min k (length (now (a .bytes)) - start .least .result)) (frames .frame-bytes .ensures))
     (room .least3 .ensures ∙ ap (λ (k : ℕ). min k 512) (pair .pair-at .ensures))
     (answered .answer-queue .ensures)
 
