@@ -1,5 +1,5 @@
 -- Laws of the record. No contract cites this file.
---   record-size     a record has 192 bytes on the machine that the proofs speak of
+--   record-size     a record has 200 bytes on the machine that the proofs speak of
 --   update-bound    the update counter stays a byte
 -- Assumes nothing.
 use Prim.Native.Nat.{ℕ, _<_}
@@ -9,7 +9,7 @@ use prog.Memory.{size}
 use Rattle.domain.proofs.Domain.Laws.{mir}
 use Rattle.domain.specs.Updates.{nextUpdate}
 
-pub record-size : size mir ≡ 192
+pub record-size : size mir ≡ 200
 record-size = refl
 
 pub update-bound : (updates : ℕ) → nextUpdate updates < 256

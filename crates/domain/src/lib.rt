@@ -44,11 +44,11 @@ pub enum Sending {
     Confirmed(VirtualLocalTime),
 }
 
-// A slave's leap bits: never both.
+// A slave's leap bits: never both. With a bit stands its run: the updates within both thresholds since the leap.
 pub enum Leap {
     None,
-    Future,
-    Past,
+    Future(u8),
+    Past(u8),
 }
 
 pub struct Domain {

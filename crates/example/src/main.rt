@@ -62,6 +62,7 @@ fn slave() -> DomainSettings {
         role: Role::Slave,
         mode: CheckMode::NotValidated,
         jump_width: 2,
+        clear_count: 61,
         security,
         user,
     }
@@ -84,6 +85,7 @@ fn master() -> DomainSettings {
         role: Role::Master,
         mode,
         jump_width: 0,
+        clear_count: 0,
         security,
         user,
     }

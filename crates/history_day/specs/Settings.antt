@@ -17,7 +17,7 @@ use Rattle.history.specs.Demand.{Copy}
 
 -- ---- a slave: J, F, L, its check mode, its DataIDs; leaps not checked
 abbrev pub slaveFor : (j f l : ℕ) → CheckMode → DataIds → DomainSettings
-slaveFor j f l mode ids = asSlave j f l 0 0 mode ids
+slaveFor j f l mode ids = asSlave j f l 0 0 1 mode ids
 
 -- ---- sixteen domains, all absent; DataIDs all 0
 abbrev pub absents : List DomainSettings

@@ -1,7 +1,7 @@
 -- A node that a function is given has sixteen records: what the layout of its type says.
 --   sixteen      so many
 --   looked-up    the record that the code finds at a place of a domain is `recordAt`'s
---   node-size    and a node has 3,088 bytes on the machine that the proofs speak of
+--   node-size    and a node has 3,216 bytes on the machine that the proofs speak of
 -- Assumes nothing.
 use Prim.Native.Nat.{ℕ, _<_}
 use mathlib.Core.Path.{_≡_, refl, sym, _∙_}
@@ -29,5 +29,5 @@ pub looked-up :
     getD (n .domains) at other ≡ recordAt (n .domains) at
 looked-up n vs p at other h = getD-any (n .domains) at other _ (omega (arith, h, sixteen n vs p))
 
-pub node-size : size declared-laws.mir ≡ 3088
+pub node-size : size declared-laws.mir ≡ 3216
 node-size = refl

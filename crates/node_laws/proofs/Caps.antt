@@ -76,10 +76,10 @@ use Rattle.slave_pair.proofs.Laws.{Joins, by-joined}
 use Rattle.slave_answer.specs.declared.FrameAnswer.the-variants.{Updated}
 use Rattle.slave_answer.specs.declared.FrameStep.{FrameStep}
 use Rattle.slave_answer.specs.Answer.{refusedOf}
-use Rattle.slave_update.specs.Update.{newBase, movedBy, updateOf}
+use Rattle.slave_update.specs.Update.{newBase, movedBy}
 use Rattle.slave_update.proofs.Laws.{received-bound}
 use Rattle.slave_sync.specs.Sync.{takesSync}
-use Rattle.slave_fup.specs.Fup.{fupAs}
+use Rattle.slave_fup.specs.Fup.{updateIn, fupAs}
 use Rattle.slave_frame.specs.Step.{kindOf}
 use Rattle.master_rules.specs.declared.due.Due.{Due}
 use Rattle.master_rules.specs.declared.due.Due.the-variants.{At}
@@ -241,8 +241,7 @@ module _ (i : ℕ) (kept : VirtualLocalTime) (d : Domain) (g : RecordGood i kept
     fup-moves :
         d .settings .role ≡ Slave → (f : Fup) → f .ovs ≤ 3 → (p : Pair) →
         Joins (d .settings .«follow_up_time») (d .pairing) t f p → (h : Held) → d .base ≡ h →
-        updateOf (d .settings .«future_threshold») (d .settings .«past_threshold») h (newBase p f) .answer
-        ≡ Updated moved →
+        updateIn d h (newBase p f) .answer ≡ Updated moved →
         Moves (d .base) (Set (newBase p f)) moved
     fup-moves is f ovs p told Unset was e = let no : _≡_ {A = ℕ} 0 1 = cc in absurd (omega arith)
     fup-moves is f ovs p told (Set old) was e =

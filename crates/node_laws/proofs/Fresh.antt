@@ -63,6 +63,7 @@ fresh-role Slave s number kept =
       pair = tt;
       order = tt;
       blank = (refl, refl, refl, refl);
+      run = tt;
       never = refl;
       next = refl;
     }

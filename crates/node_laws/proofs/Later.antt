@@ -39,6 +39,7 @@ module _ (kept kept′ : VirtualLocalTime) (le : kept .0 ≤ kept′ .0) where
         pair = g .pair;
         order = g .order;
         blank = g .blank;
+        run = g .run;
         never = g .never;
         next = g .next;
       }

@@ -15,6 +15,7 @@ pub mod Independent
 pub mod Through
 pub mod Interleaved
 pub mod Stays
+pub mod Leaps
 pub mod Roles
 pub mod Cycles
 pub mod ReadBack

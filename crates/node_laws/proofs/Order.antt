@@ -49,8 +49,8 @@ use Rattle.slave_answer.specs.declared.FrameStep.{FrameStep}
 use Rattle.slave_answer.specs.Answer.{frameNumber}
 use Rattle.slave_pair.specs.Join.{isOld, isOther, isAbove}
 use Rattle.slave_sync.specs.Sync.{takesSync}
-use Rattle.slave_update.specs.Update.{newBase, updateOf}
-use Rattle.slave_fup.specs.Fup.{takenBy}
+use Rattle.slave_update.specs.Update.{newBase}
+use Rattle.slave_fup.specs.Fup.{updateIn, takenBy}
 use Rattle.slave_frame.specs.Step.{kindOf}
 use Rattle.master_follow.specs.Follow.{isOpenFor}
 use Rattle.call_frame.specs.FrameCall.{frameCallAs}
@@ -93,10 +93,7 @@ told false p q = q refl
 module _ (d : Domain) (kept t : VirtualLocalTime) (bytes : List ℕ) where
   taken-zero :
       (base : Held) (p : Pair) (f : Fup) →
-      frameNumber
-      (takenBy (updateOf (d .settings .«future_threshold») (d .settings .«past_threshold») base (newBase p f)) d p f
-      .answer)
-      ≡ 0
+      frameNumber (takenBy (updateIn d base (newBase p f)) d p f .answer) ≡ 0
   taken-zero Unset p f = refl
   taken-zero (Set b) p f = refl
 

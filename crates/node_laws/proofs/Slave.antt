@@ -2,15 +2,18 @@
 --   frame-good    it leaves a good record good, at the reading kept after it
 --   frame-kept    which is no earlier than the one before, and in range if that one was
 -- Assumes nothing.
-use Prim.Native.Nat.{ℕ, zero, suc, _≤_, _<_}
+use Prim.Native.Nat.{ℕ, zero, suc, _+_, _≤_, _<_}
 use mathlib.Core.Path.{_≡_, refl, sym, subst}
+use mathlib.Core.Bool.{true}
 use mathlib.Core.List.{List, [], _∷_}
 use native.Mathlib.Omega.{arith}
-use lib.Dec.{eqb}
+use lib.Dec.{eqb, ltb}
+use borrow.Author.Tests.{ltb-true}
 use lib.ListN.{length, getD}
 use Rattle.frame.specs.ByteTwo.{counters}
 use Rattle.promise.proofs.Tests.{either, either-told, both}
 use Rattle.clock.specs.declared.reading.VirtualLocalTime.{VirtualLocalTime}
+use Rattle.clock.specs.declared.base.TimeBase.{TimeBase}
 use Rattle.clock.specs.declared.base.Held.{Held}
 use Rattle.clock.specs.declared.base.Held.the-variants.{Unset, Set}
 use Rattle.frame.specs.declared.types.FrameType.{FrameType}
@@ -35,6 +38,8 @@ use Rattle.frame_laws.specs.RoundTrip.{AreBytes}
 use Rattle.frame_laws.proofs.Laws.{byte-below}
 use Rattle.settings.specs.declared.domain_settings.Role.{Role}
 use Rattle.settings.specs.declared.domain_settings.Role.the-variants.{Slave}
+use Rattle.settings.specs.Ranges.{isGoodAs}
+use Rattle.settings.proofs.ranges.Laws.{slave-range}
 use Rattle.admission.specs.declared.Needed.the-variants.{Slave as slave}
 use Rattle.admission.specs.declared.frames.FrameAdmission.{FrameAdmission}
 use Rattle.admission.specs.declared.frames.FrameAdmission.the-variants.{Admitted, Refused}
@@ -49,16 +54,18 @@ use Rattle.domain.specs.declared.Pairing.{Pairing}
 use Rattle.domain.specs.declared.LastSync.{LastSync}
 use Rattle.domain.specs.declared.LastSync.the-variants.{Seen}
 use Rattle.domain.specs.declared.Leap.{Leap}
+use Rattle.domain.specs.declared.Leap.the-variants.{None, Future, Past}
 use Rattle.slave_pair.specs.declared.joining.Joined.{Joined}
 use Rattle.slave_pair.specs.declared.joining.Joined.the-variants.{With, Refused as not-joined}
 use Rattle.slave_answer.specs.Answer.{frameNumber}
 use Rattle.slave_pair.specs.Join.{joinedOf}
 use Rattle.slave_pair.proofs.Laws.{by-joined}
-use Rattle.slave_update.specs.Update.{newBase, updateOf}
+use Rattle.slave_update.specs.Leap.{isFuture, isPast, calmer}
+use Rattle.slave_update.specs.Update.{newBase, movedBy, updateOf}
 use Rattle.slave_update.proofs.Laws.{update-taken}
 use Rattle.slave_answer.specs.declared.FrameStep.{FrameStep}
 use Rattle.slave_sync.specs.Sync.{withPair, takesSync, syncOf}
-use Rattle.slave_fup.specs.Fup.{updatedOf, fupAs}
+use Rattle.slave_fup.specs.Fup.{updatedOf, updateIn, fupAs}
 use Rattle.slave_frame.specs.Step.{kindOf, frameOf}
 use Rattle.admission.specs.Kept.{keptAfter}
 use Rattle.call_frame.specs.FrameCall.{frameCallAs, frameCallOf}
@@ -68,6 +75,7 @@ use Rattle.node_laws.specs.Good.{
   PairWithin,
   BaseBefore,
   Blank,
+  RunBelow,
   SlaveGood,
   RoleGood,
   RecordGood,
@@ -158,6 +166,7 @@ paired d t s c g =
       pair = (c .1, refl);
       order = base-before (s .counter) t _ (d .base) (g .base);
       blank = blank-with (d .base) d t s (g .blank);
+      run = g .run;
       never = g .never;
       next = g .next;
     }
@@ -176,8 +185,25 @@ joined most last pairing t f h =
     by-joined (JoinedWith last f) most pairing t f tt tt tt
     (λ p told. let w = subst (PairWithin last) (told .held) h in (w .0, w .1, told .in-range))
 
+-- the leap after an update has a run below the count, whatever was held
+module _ (count : ℕ) (least : 1 ≤ count) where
+  calmer-below : (held : Leap) → RunBelow count (calmer count held)
+  calmer-below None = tt
+  calmer-below (Future run) =
+      either-told (RunBelow count) (ltb (run + 1) count) (λ e. ltb-true (run + 1) count e) (λ e. tt)
+  calmer-below (Past run) =
+      either-told (RunBelow count) (ltb (run + 1) count) (λ e. ltb-true (run + 1) count e) (λ e. tt)
+
+  update-below :
+      (future past : ℕ) (held : Leap) (b : Held) (new : TimeBase) →
+      RunBelow count (updateOf future past count held b new .leap)
+  update-below future past held Unset new = tt
+  update-below future past held (Set old) new =
+      either (RunBelow count) (isFuture future (movedBy old new)) (omega arith)
+      (either (RunBelow count) (isPast past (movedBy old new)) (omega arith) (calmer-below held))
+
 module _ (d : Domain) (t : VirtualLocalTime) (p : Pair) (f : Fup) (leap : Leap)
-    (j : JoinedWith (d .last) f (With p)) where
+    (below : RunBelow (d .settings .«clear_count») leap) (j : JoinedWith (d .last) f (With p)) where
   pair-before : LastWithin t (d .last) → p .at .0 ≤ t .0
   pair-before h = (subst (LastWithin t) (j .1) h) .1
 
@@ -192,6 +218,7 @@ module _ (d : Domain) (t : VirtualLocalTime) (p : Pair) (f : Fup) (leap : Leap)
         pair = tt;
         order = base-of-last;
         blank = tt;
+        run = below;
         never = g .never;
         next = g .next;
       }
@@ -225,26 +252,31 @@ module _ (i : ℕ) (kept t : VirtualLocalTime) (d : Domain) (g : RecordGood i ke
         })
         g
 
+    count-least : 1 ≤ d .settings .«clear_count»
+    count-least =
+        slave-range (d .settings) (subst (λ (r : Role). isGoodAs r (d .settings) ≡ true) is (g .settings))
+        .leaps .count .0
+
     taken :
-        (p : Pair) (f : Fup) (leap : Leap) → f .ovs ≤ 3 → JoinedWith (d .last) f (With p) →
-        RecordGood i t (updatedOf d p f leap)
-    taken p f leap o j =
+        (p : Pair) (f : Fup) (leap : Leap) → RunBelow (d .settings .«clear_count») leap → f .ovs ≤ 3 →
+        JoinedWith (d .last) f (With p) → RecordGood i t (updatedOf d p f leap)
+    taken p f leap below o j =
         record {
           number = g .number;
           settings = g .settings;
           settings-held = g .settings-held;
           ids = g .ids;
           updates = omega arith;
-          role = as-role (updatedOf d p f leap) (updated d t p f leap j o as-slave);
+          role = as-role (updatedOf d p f leap) (updated d t p f leap below j o as-slave);
         }
 
     fup-as : (j : Joined) (f : Fup) → f .ovs ≤ 3 → JoinedWith (d .last) f j → StepGood (fupAs j d f)
     fup-as (not-joined refusal) f o h =
         either (λ (k : VirtualLocalTime). RecordGood i k d) (eqb (numberOf refusal) 0) at-t g
     fup-as (With p) f o h =
-        let u = updateOf (d .settings .«future_threshold») (d .settings .«past_threshold») (d .base) (newBase p f) in
+        let u = updateIn d (d .base) (newBase p f) in
         subst (λ (n : ℕ). RecordGood i (keptAfter n kept t) (updatedOf d p f (u .leap)))
-        (sym (update-taken _ _ (d .base) (newBase p f))) (taken p f (u .leap) o h)
+        (sym (update-taken _ _ _ _ (d .base) (newBase p f))) (taken p f (u .leap) (update-below _ count-least _ _ (d .leap) (d .base) (newBase p f)) o h)
 
     kind-step : (values : Frame) → Carried values → StepGood (kindOf d t values)
     kind-step (sync s) c = sync-step s c

@@ -1,5 +1,6 @@
 -- What every call keeps of every record, refused or not. No contract cites this file.
---   call-keeps      a relation between a record before and after that each step keeps, every call keeps
+--   call-keeps      a relation between a record before and after that each step keeps, every call keeps; a set, a main
+--                   cycle or a confirmation (`set-call-keeps` and so on), if each step of a master keeps it
 --   base-stays      a base once set stays set, after a call
 --   bases-stay      and after calls, however many
 --   settings-stay   no call changes the settings in a record
@@ -65,36 +66,28 @@ use Rattle.node_call.specs.Calls.{Call, frame, read, set, cycle, confirm, nodeA
 use Rattle.node_laws.specs.Good.{BaseStays}
 use Rattle.node_laws.specs.Apart.{SettingsStay}
 
--- ---- A relation between a record before and after: what stays as it was keeps it, and so does each step: a SYNC
--- accepted, a FUP taken, a set, a SYNC sent, a confirmation.
-pub record Kept (R : (before after : Domain) → Type 0) : Type 0 where
+-- ---- A relation between a record before and after: what stays as it was keeps it, and so does each step: of a master
+-- a set, a SYNC sent, a confirmation; of a slave a SYNC accepted, a FUP taken.
+pub record KeptByMaster (R : (before after : Domain) → Type 0) : Type 0 where
   pub same : (d : Domain) → R d d
   pub onward : (a b c : Domain) → R a b → R b c → R a c
-  pub paired : (d : Domain) (t : VirtualLocalTime) (s : Sync) → R d (withPair d t s)
-  pub updated : (d : Domain) (p : Pair) (f : Fup) (leap : Leap) → R d (updatedOf d p f leap)
   pub timed : (d : Domain) (g : GlobalTime) (t : VirtualLocalTime) → R d (withTime d g t)
   pub sent :
       (d : Domain) (seconds nanoseconds : ℕ) (t : VirtualLocalTime) → R d (sentOf d seconds nanoseconds t .domain)
   pub confirmed : (d : Domain) (at : VirtualLocalTime) → R d (withSending d (Confirmed at))
 
-module _ (R : (before after : Domain) → Type 0) (k : Kept R) where
+pub record Kept (R : (before after : Domain) → Type 0) : Type 0 where
+  pub master : KeptByMaster R
+  pub paired : (d : Domain) (t : VirtualLocalTime) (s : Sync) → R d (withPair d t s)
+  pub updated : (d : Domain) (p : Pair) (f : Fup) (leap : Leap) → R d (updatedOf d p f leap)
+
+module _ (R : (before after : Domain) → Type 0) (k : KeptByMaster R) where
+  abbrev Keeps : Node → Call → (i : ℕ) → Type 0
+  Keeps n c i = R (recordAt (n .domains) i) (recordAt (nodeAfter n c .domains) i)
+
   -- ---- a call on one record
 
   module _ (d : Domain) (kept t : VirtualLocalTime) where
-    fup-keeps : (j : Joined) (f : Fup) → R d (fupAs j d f .domain)
-    fup-keeps (not-joined refusal) f = k .same d
-    fup-keeps (With p) f = k .updated d p f _
-
-    kind-keeps : (values : Frame) → R d (kindOf d t values .domain)
-    kind-keeps (sync s) = either (λ (r : FrameStep). R d (r .domain)) (takesSync d t s) (k .paired d t s) (k .same d)
-    kind-keeps (fup f) = fup-keeps (joinedOf (d .settings .«follow_up_time») (d .pairing) t f) f
-
-    frame-keeps : (a : FrameAdmission) (bytes : List ℕ) → R d (frameCallAs a d kept t bytes .domain)
-    frame-keeps (refused refusal) bytes = k .same d
-    frame-keeps (admitted values) bytes =
-        either (λ (r : FrameStep). R d (r .domain)) (isTaken (d .settings .mode) (d .settings .ids) bytes)
-        (kind-keeps values) (k .same d)
-
     set-keeps : (a : Admission) (s ns : ℕ) → R d (setCallAs a d kept t s ns .domain)
     set-keeps (Refused refusal) s ns = k .same d
     set-keeps Admitted s ns =
@@ -144,41 +137,76 @@ module _ (R : (before after : Domain) → Type 0) (k : Kept R) where
       (goes-keeps turns (nextPlace places at) (sentAfter (s .answer) sent) most t (put ds at (s .domain))
       (nextAfter (s .answer) at next) i)
 
-  -- ---- a call
+  -- ---- a master's call
 
-  pub call-keeps : (n : Node) (c : Call) (i : ℕ) → R (recordAt (n .domains) i) (recordAt (nodeAfter n c .domains) i)
-  call-keeps n (frame t bytes) i =
-      let d = recordAt (n .domains) (addressedBy bytes) in
-      put-keeps (n .domains) i (addressedBy bytes) _
-      (frame-keeps d (n .kept) t (frameAdmitted (n .kept) t (d .number) (d .settings .role) bytes) bytes)
-  call-keeps n (read domain t) i = k .same _
-  call-keeps n (set domain t s ns) i =
+  pub set-call-keeps : (n : Node) (domain : ℕ) (t : VirtualLocalTime) (s ns i : ℕ) → Keeps n (set domain t s ns) i
+  set-call-keeps n domain t s ns i =
       let d = recordAt (n .domains) (domain % places) in
       put-keeps (n .domains) i (domain % places) _
       (set-keeps d (n .kept) t (admittedOf (n .kept) t (d .number) (d .settings .role) domain Master) s ns)
-  call-keeps n (cycle t out) i =
+
+  pub cycle-call-keeps : (n : Node) (t : VirtualLocalTime) (out : List ℕ) (i : ℕ) → Keeps n (cycle t out) i
+  cycle-call-keeps n t out i =
       let P : NodeCycle → Type 0 = λ r. R (recordAt (n .domains) i) (recordAt (r .node .domains) i) in
       either P (isGoodReading (n .kept) t)
       (either P (isRoomFor n (length out))
       (goes-keeps places (n .round % places) 0 (n .«syncs_per_cycle») t (n .domains) (n .round) i) (k .same _))
       (k .same _)
-  call-keeps n (confirm domain t counter out) i =
+
+  pub confirm-call-keeps :
+      (n : Node) (domain : ℕ) (t : VirtualLocalTime) (counter : ℕ) (out : List ℕ) (i : ℕ) →
+      Keeps n (confirm domain t counter out) i
+  confirm-call-keeps n domain t counter out i =
       let d = recordAt (n .domains) (domain % places) in
       let admission = admittedOf (n .kept) t (d .number) (d .settings .role) domain Master in
       put-keeps (n .domains) i (domain % places) _ (confirm-keeps d (n .kept) t admission counter (length out))
+
+-- ---- any call
+
+module _ (R : (before after : Domain) → Type 0) (k : Kept R) where
+  module _ (d : Domain) (kept t : VirtualLocalTime) where
+    abbrev still : R d d
+    still = k .master .same d
+
+    fup-keeps : (j : Joined) (f : Fup) → R d (fupAs j d f .domain)
+    fup-keeps (not-joined refusal) f = still
+    fup-keeps (With p) f = k .updated d p f _
+
+    kind-keeps : (values : Frame) → R d (kindOf d t values .domain)
+    kind-keeps (sync s) = either (λ (r : FrameStep). R d (r .domain)) (takesSync d t s) (k .paired d t s) still
+    kind-keeps (fup f) = fup-keeps (joinedOf (d .settings .«follow_up_time») (d .pairing) t f) f
+
+    frame-keeps : (a : FrameAdmission) (bytes : List ℕ) → R d (frameCallAs a d kept t bytes .domain)
+    frame-keeps (refused refusal) bytes = still
+    frame-keeps (admitted values) bytes =
+        either (λ (r : FrameStep). R d (r .domain)) (isTaken (d .settings .mode) (d .settings .ids) bytes)
+        (kind-keeps values) still
+
+  pub call-keeps : (n : Node) (c : Call) (i : ℕ) → R (recordAt (n .domains) i) (recordAt (nodeAfter n c .domains) i)
+  call-keeps n (frame t bytes) i =
+      let d = recordAt (n .domains) (addressedBy bytes) in
+      put-keeps R (k .master) (n .domains) i (addressedBy bytes) _
+      (frame-keeps d (n .kept) t (frameAdmitted (n .kept) t (d .number) (d .settings .role) bytes) bytes)
+  call-keeps n (read domain t) i = k .master .same _
+  call-keeps n (set domain t s ns) i = set-call-keeps R (k .master) n domain t s ns i
+  call-keeps n (cycle t out) i = cycle-call-keeps R (k .master) n t out i
+  call-keeps n (confirm domain t counter out) i = confirm-call-keeps R (k .master) n domain t counter out i
 
 -- ---- a base once set stays set
 
 base-kept : Kept BaseStays
 base-kept =
     record {
-      same = λ d h. h;
-      onward = λ a b c p q h. search;
+      master =
+          record {
+            same = λ d h. h;
+            onward = λ a b c p q h. search;
+            timed = λ d g t h. tt;
+            sent = λ d seconds nanoseconds t h. h;
+            confirmed = λ d at h. h;
+          };
       paired = λ d t s h. h;
       updated = λ d p f leap h. tt;
-      timed = λ d g t h. tt;
-      sent = λ d seconds nanoseconds t h. h;
-      confirmed = λ d at h. h;
     }
 
 pub base-stays :
@@ -195,13 +223,16 @@ bases-stay n (c ∷ rest) i h = bases-stay (nodeAfter n c) rest i (base-stays n 
 settings-kept : Kept SettingsStay
 settings-kept =
     record {
-      same = λ d. refl;
-      onward = λ a b c p q. q ∙ p;
+      master =
+          record {
+            same = λ d. refl;
+            onward = λ a b c p q. q ∙ p;
+            timed = λ d g t. refl;
+            sent = λ d seconds nanoseconds t. refl;
+            confirmed = λ d at. refl;
+          };
       paired = λ d t s. refl;
       updated = λ d p f leap. refl;
-      timed = λ d g t. refl;
-      sent = λ d seconds nanoseconds t. refl;
-      confirmed = λ d at. refl;
     }
 
 pub settings-stay :

@@ -21,7 +21,8 @@ use Rattle.domain.specs.declared.LastSync.{LastSync}
 use Rattle.domain.specs.declared.LastSync.the-variants.{Unknown, Seen}
 use Rattle.domain.specs.declared.Sending.{Sending}
 use Rattle.domain.specs.declared.Sending.the-variants.{Never, Open as open-sync, Confirmed}
-use Rattle.domain.specs.declared.Leap.the-variants.{None}
+use Rattle.domain.specs.declared.Leap.{Leap}
+use Rattle.domain.specs.declared.Leap.the-variants.{None, Future, Past}
 use Rattle.domain.specs.Fresh.{freshOf}
 use Rattle.domain.specs.Records.{recordAt}
 use Rattle.node.specs.declared.Node.{Node}
@@ -52,6 +53,12 @@ abbrev pub Blank : Held → Domain → Type 0
 Blank (Set b) d = Unit {0}
 Blank Unset d = (d .updates ≡ 0) × (d .user ≡ record { 0 = 0; 1 = 0; 2 = 0 }) × (d .sgw ≡ false) × (d .leap ≡ None)
 
+-- ---- the run of a leap that shows is below the count that clears it
+abbrev pub RunBelow : (count : ℕ) → Leap → Type 0
+RunBelow count None = Unit {0}
+RunBelow count (Future run) = run < count
+RunBelow count (Past run) = run < count
+
 -- ---- what was sent last: from a base that is set, with the counter before the next one
 abbrev pub BaseSet : Held → Type 0
 BaseSet Unset = ⊥
@@ -75,6 +82,7 @@ pub record SlaveGood (kept : VirtualLocalTime) (d : Domain) : Type 0 where
   pub pair : PairWithin (d .last) (d .pairing)
   pub order : BaseBefore (d .last) (d .base)
   pub blank : Blank (d .base) d
+  pub run : RunBelow (d .settings .«clear_count») (d .leap)
   pub never : d .sending ≡ Never
   pub next : d .«next_counter» ≡ 0
 

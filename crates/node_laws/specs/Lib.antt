@@ -1,6 +1,7 @@
 -- The definitions of `node_laws`, in the order to read them.
 pub mod Reachable
 pub mod Good
+pub mod Leaps
 pub mod Bounds
 pub mod Cases
 pub mod Due

@@ -1,4 +1,4 @@
--- Paper 01, "Settings of a node": the ranges of one domain's settings. Assumes nothing.
+-- Paper 01, "Settings of a node", and paper 02, request 3: the ranges of one domain's settings. Assumes nothing.
 use Prim.Native.Nat.{ℕ}
 use mathlib.Core.Bool.{Bool, true, _&&_}
 use lib.Dec.{leb, ltb}
@@ -10,14 +10,19 @@ use Rattle.settings.specs.declared.domain_settings.Role.the-variants.{Ab
 abbrev pub within : (least most x : ℕ) → Bool
 within least most x = leb least x && leb x most
 
+abbrev pub leapsGood : DomainSettings → Bool
+leapsGood s =
+    leb (s .«future_threshold») 1000000000000
+    && leb (s .«past_threshold») 1000000000000
+    && within 1 255 (s .«clear_count»)
+
 abbrev pub slaveGood : DomainSettings → Bool
 slaveGood s =
     within 1 15 (s .«jump_width»)
     && within 1 10000000000 (s .«follow_up_time»)
     && ltb (s .«follow_up_time») (s .«loss_time»)
     && leb (s .«loss_time») 1000000000000
-    && leb (s .«future_threshold») 1000000000000
-    && leb (s .«past_threshold») 1000000000000
+    && leapsGood s
 
 abbrev pub masterGood : DomainSettings → Bool
 masterGood s =

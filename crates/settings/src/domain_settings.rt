@@ -37,9 +37,10 @@ pub struct DomainSettings {
     // Each domain's DataIDs.
     pub ids: DataIds,
     pub role: Role,
-    // A slave's: check mode and counter jump width J.
+    // A slave's: check mode, counter jump width J, and the updates in a row that clear a leap bit.
     pub mode: CheckMode,
     pub jump_width: u8,
+    pub clear_count: u8,
     // A master's: plain or secured, and the user bytes it sends.
     pub security: Security,
     pub user: UserBytes,
@@ -57,6 +58,9 @@ impl DomainSettings {
     pub const LOSS_TIME_MAX: u64 = 1_000_000_000_000;
 
     pub const THRESHOLD_MAX: u64 = 1_000_000_000_000;
+
+    // Its greatest is that of a byte.
+    pub const CLEAR_COUNT_MIN: u8 = 1;
 
     pub const PERIOD_MIN: u64 = 1_000_000;
 
@@ -96,6 +100,7 @@ impl DomainSettings {
             role: Role::Absent,
             mode: CheckMode::Validated,
             jump_width: 0,
+            clear_count: 0,
             security: Security::Plain,
             user: UserBytes(0, 0, 0),
         }
@@ -117,6 +122,7 @@ impl DomainSettings {
             role: Role::Slave,
             mode,
             jump_width: self.jump_width,
+            clear_count: self.clear_count,
             security: Security::Plain,
             user: UserBytes(0, 0, 0),
         }
@@ -139,6 +145,7 @@ impl DomainSettings {
             role: Role::Master,
             mode: CheckMode::Validated,
             jump_width: 0,
+            clear_count: 0,
             security,
             user,
         }

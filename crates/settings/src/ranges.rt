@@ -3,7 +3,7 @@
 use crate::DomainSettings;
 use crate::Role;
 ghost use mathlib.Core.Path.{_≡_};
-ghost use Rattle.settings.specs.Ranges.{isGood, slaveGood, masterGood};
+ghost use Rattle.settings.specs.Ranges.{isGood, leapsGood, slaveGood, masterGood};
 
 // Whether they are in range, as far as the role has them read.
 pub fn is_good(settings: DomainSettings) -> bool
@@ -38,10 +38,20 @@ fn slave_good(settings: DomainSettings) -> bool
     if DomainSettings::LOSS_TIME_MAX < settings.loss_time {
         return false;
     }
+    leaps_good(settings)
+}
+
+// The leap thresholds, and the count that clears a leap bit.
+fn leaps_good(settings: DomainSettings) -> bool
+    ensures { λ r. ⌜ r ≡ leapsGood settings ⌝ }
+{
     if DomainSettings::THRESHOLD_MAX < settings.future_threshold {
         return false;
     }
-    settings.past_threshold <= DomainSettings::THRESHOLD_MAX
+    if DomainSettings::THRESHOLD_MAX < settings.past_threshold {
+        return false;
+    }
+    DomainSettings::CLEAR_COUNT_MIN <= settings.clear_count
 }
 
 fn master_good(settings: DomainSettings) -> bool

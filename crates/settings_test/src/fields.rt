@@ -24,6 +24,8 @@ pub fn numbers(s: DomainSettings) {
     number(s.future_threshold);
     word(b" past");
     number(s.past_threshold);
+    word(b" count");
+    small(s.clear_count);
     word(b" P");
     number(s.period);
     word(b" C");

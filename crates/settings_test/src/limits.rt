@@ -14,6 +14,7 @@ pub fn limits() {
     line::number(DomainSettings::FOLLOW_UP_TIME_MAX);
     line::number(DomainSettings::LOSS_TIME_MAX);
     line::number(DomainSettings::THRESHOLD_MAX);
+    line::number(DomainSettings::CLEAR_COUNT_MIN as u64);
     line::number(DomainSettings::PERIOD_MIN);
     line::number(DomainSettings::PERIOD_MAX);
     line::number(DomainSettings::CONFIRMATION_TIME_MIN);

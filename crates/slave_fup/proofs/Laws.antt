@@ -15,8 +15,8 @@ use Rattle.slave_pair.specs.declared.joining.Joined.the-variants.{With, Refused
 use Rattle.slave_answer.specs.Answer.{frameNumber}
 use Rattle.slave_pair.specs.Join.{joinedOf}
 use Rattle.slave_pair.proofs.Laws.{by-joined}
-use Rattle.slave_update.specs.Update.{newBase, updateOf}
-use Rattle.slave_fup.specs.Fup.{takenBy, fupAs, fupOf}
+use Rattle.slave_update.specs.Update.{newBase}
+use Rattle.slave_fup.specs.Fup.{updateIn, takenBy, fupAs, fupOf}
 use Rattle.slave_answer.specs.Answer.{Keeps}
 
 -- ---- a refusal keeps the record
@@ -27,8 +27,7 @@ as-keeps (With p) d f = update-keeps (d .base)
   where
     update-keeps :
         (b : Held) →
-        Keeps d
-        (takenBy (updateOf (d .settings .«future_threshold») (d .settings .«past_threshold») b (newBase p f)) d p f)
+        Keeps d (takenBy (updateIn d b (newBase p f)) d p f)
     update-keeps Unset = λ r e. cc
     update-keeps (Set old) = λ r e. cc
 

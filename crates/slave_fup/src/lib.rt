@@ -32,7 +32,9 @@ pub fn take_fup(domain: Domain, t: VirtualLocalTime, fup: Fup) -> FrameStep
         Joined::With(pair) => {
             let future = settings.future_threshold;
             let past = settings.past_threshold;
-            let update = update_by(future, past, base, new_base(pair, fup));
+            let count = settings.clear_count;
+            let held = domain.leap;
+            let update = update_by(future, past, count, held, base, new_base(pair, fup));
             let last = domain.last;
             let sending = domain.sending;
             let protection = fup.protection;

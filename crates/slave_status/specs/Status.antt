@@ -23,8 +23,8 @@ gatewayBit sgw = cond sgw 0x04 0
 -- ---- "0x10 TIMELEAP_FUTURE, 0x20 TIMELEAP_PAST"
 abbrev pub leapBits : Leap → ℕ
 leapBits None = 0
-leapBits Future = 0x10
-leapBits Past = 0x20
+leapBits (Future run) = 0x10
+leapBits (Past run) = 0x20
 
 abbrev pub statusBits : (l : ℕ) → Held → Bool → Leap → VirtualLocalTime → ℕ
 statusBits l base sgw leap t = baseBits l base t + gatewayBit sgw + leapBits leap

@@ -67,7 +67,7 @@ fn leap_bits(leap: Leap) -> u8
 {
     match leap {
         Leap::None => 0,
-        Leap::Future => TIMELEAP_FUTURE,
-        Leap::Past => TIMELEAP_PAST,
+        Leap::Future(_) => TIMELEAP_FUTURE,
+        Leap::Past(_) => TIMELEAP_PAST,
     }
 }

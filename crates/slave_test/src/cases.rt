@@ -3,9 +3,11 @@
 // (tests/trial/slave_*).
 use crate::steps::fresh;
 use crate::steps::fup;
+use crate::steps::leaping;
 use crate::steps::no_frame;
 use crate::steps::status;
 use crate::steps::sync;
+use domain::Leap;
 
 // The update counter, from 255 to 0.
 pub fn updates() {
@@ -37,6 +39,15 @@ pub fn far_leaps() {
     d = fup(d, 0, 1, 3, 999_999_999);
     d = sync(d, 1_000_000_000_000_000_000, 2, 0);
     d = fup(d, 1_000_000_000_000_000_000, 2, 0, 0);
+}
+
+// A first update clears a leap that was held without a base. No node holds one.
+pub fn first_clears() {
+    let mut d = leaping(fresh(1, 100, 1000, 500, 700), Leap::Past(7));
+    status(d, 0);
+    d = sync(d, 0, 0, 5);
+    d = fup(d, 1, 0, 0, 0);
+    status(d, 1);
 }
 
 // Exactly L after the base's T2, and one more; from T2 and not from the FUP or a later SYNC; cleared

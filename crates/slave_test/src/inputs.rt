@@ -27,6 +27,7 @@ pub fn slave(
         role: Role::Slave,
         mode: CheckMode::Ignored,
         jump_width,
+        clear_count: 1,
         security: Security::Plain,
         user: UserBytes(0, 0, 0),
     }

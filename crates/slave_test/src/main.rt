@@ -10,6 +10,7 @@ fn main() {
     cases::updates();
     cases::earlier();
     cases::far_leaps();
+    cases::first_clears();
     cases::timeout();
     cases::no_frames();
 }

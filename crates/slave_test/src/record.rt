@@ -71,7 +71,13 @@ fn seen(last: LastSync) {
 fn leapt(leap: Leap) {
     match leap {
         Leap::None => line::word(b" leap none"),
-        Leap::Future => line::word(b" leap future"),
-        Leap::Past => line::word(b" leap past"),
+        Leap::Future(run) => {
+            line::word(b" leap future");
+            line::small(run);
+        }
+        Leap::Past(run) => {
+            line::word(b" leap past");
+            line::small(run);
+        }
     }
 }

@@ -3,6 +3,7 @@ use crate::inputs;
 use crate::record;
 use clock::VirtualLocalTime;
 use domain::Domain;
+use domain::Leap;
 use frame::Frame;
 use frame::Fup;
 use frame::Protection;
@@ -30,6 +31,29 @@ pub fn fresh(j: u8, f: u64, l: u64, future: u64, past: u64) -> Domain {
     line::number(past);
     record::shown(d);
     d
+}
+
+// The record with a leap.
+pub fn leaping(d: Domain, leap: Leap) -> Domain {
+    let settings = d.settings;
+    let base = d.base;
+    let pairing = d.pairing;
+    let last = d.last;
+    let sending = d.sending;
+    let user = d.user;
+    Domain {
+        settings,
+        base,
+        pairing,
+        last,
+        sending,
+        number: d.number,
+        user,
+        sgw: d.sgw,
+        leap,
+        updates: d.updates,
+        next_counter: d.next_counter,
+    }
 }
 
 // ---- SYNC and FUP, by their values

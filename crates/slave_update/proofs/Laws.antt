@@ -5,15 +5,15 @@
 -- Assumes nothing.
 use Prim.Native.Nat.{ℕ, _≤_}
 use mathlib.Core.Path.{_≡_, refl}
-use mathlib.Core.Bool.{true, false, not, and-false}
+use mathlib.Core.Bool.{true, false, and-false, false≢true}
 use native.Mathlib.Omega.{arith}
-use lib.Dec.{eqb}
 use lib.IntN.{ℤ, pos, negsuc}
 use Rattle.clock.specs.declared.base.TimeBase.{TimeBase}
 use Rattle.clock.specs.declared.base.Held.{Held}
 use Rattle.clock.specs.declared.base.Held.the-variants.{Unset, Set}
 use Rattle.clock.specs.Time.{IsReceived}
 use Rattle.frame.specs.declared.values.Fup.{Fup}
+use Rattle.domain.specs.declared.Leap.{Leap}
 use Rattle.domain.specs.declared.Pair.{Pair}
 use Rattle.slave_answer.specs.Answer.{frameNumber}
 use Rattle.slave_update.specs.Leap.{isFuture, isPast}
@@ -26,11 +26,10 @@ received-bound p f hs ho hn = omega arith
 
 pub leap-exclusive : (future past : ℕ) (d : ℤ) → isFuture future d ≡ true → isPast past d ≡ false
 leap-exclusive future past (pos m) e = simp (and-false)
-leap-exclusive future past (negsuc m) e =
-    let no = and-false (not (eqb future 0)) in
-    cc
+leap-exclusive future past (negsuc m) e = absurd (false≢true (simp (and-false) at e))
 
 pub update-taken :
-    (future past : ℕ) (b : Held) (new : TimeBase) → frameNumber (updateOf future past b new .answer) ≡ 0
-update-taken future past Unset new = refl
-update-taken future past (Set old) new = refl
+    (future past count : ℕ) (held : Leap) (b : Held) (new : TimeBase) →
+    frameNumber (updateOf future past count held b new .answer) ≡ 0
+update-taken future past count held Unset new = refl
+update-taken future past count held (Set old) new = refl

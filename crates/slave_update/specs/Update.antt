@@ -8,10 +8,11 @@ use Rattle.clock.specs.Difference.{differenceOf}
 use Rattle.clock.specs.Base.{baseOf, timeAt}
 use Rattle.frame.specs.declared.values.Fup.{Fup}
 use Rattle.domain.specs.declared.Pair.{Pair}
+use Rattle.domain.specs.declared.Leap.{Leap}
 use Rattle.domain.specs.declared.Leap.the-variants.{None}
 use Rattle.slave_update.specs.declared.update.Update.{Update}
 use Rattle.slave_answer.specs.declared.FrameAnswer.the-variants.{FirstTaken, Updated}
-use Rattle.slave_update.specs.Leap.{leapOf}
+use Rattle.slave_update.specs.Leap.{leapAfter}
 
 -- ---- "The base then holds seconds plus OVS, and the nanoseconds, at T2."
 abbrev pub newBase : Pair → Fup → TimeBase
@@ -22,7 +23,7 @@ newBase p f = baseOf (record { 0 = p .seconds + f .ovs; 1 = f .nanoseconds }) (p
 abbrev pub movedBy : TimeBase → TimeBase → ℤ
 movedBy old new = differenceOf (new .time) (timeAt old (new .at))
 
-abbrev pub updateOf : (future past : ℕ) → Held → TimeBase → Update
-updateOf future past Unset new = record { answer = FirstTaken; leap = None }
-updateOf future past (Set old) new =
-    record { answer = Updated (movedBy old new); leap = leapOf future past (movedBy old new) }
+abbrev pub updateOf : (future past count : ℕ) → Leap → Held → TimeBase → Update
+updateOf future past count held Unset new = record { answer = FirstTaken; leap = None }
+updateOf future past count held (Set old) new =
+    record { answer = Updated (movedBy old new); leap = leapAfter future past count held (movedBy old new) }

@@ -3,7 +3,7 @@
 mod leap;
 mod update;
 
-pub use leap::leap_of;
+pub use leap::leap_after;
 pub use update::Update;
 pub use update::new_base;
 pub use update::update_by;

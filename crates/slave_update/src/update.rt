@@ -1,5 +1,5 @@
 // What a pair and its FUP make of the base (paper 01, "A slave's domain").
-use crate::leap::leap_of;
+use crate::leap::leap_after;
 use clock::GlobalTime;
 use clock::Held;
 use clock::TimeBase;
@@ -19,14 +19,15 @@ pub fn new_base(pair: Pair, fup: Fup) -> TimeBase
     TimeBase::new(GlobalTime(seconds, fup.nanoseconds), at)
 }
 
-// What an update says: the first one, or D and the leap it is.
+// What an update says: the first one, or D; and the leap after it.
 pub struct Update {
     pub answer: FrameAnswer,
     pub leap: Leap,
 }
 
-pub fn update_by(future: u64, past: u64, old: Held, new: TimeBase) -> Update
-    ensures { λ r. ⌜ r ≡ updateOf future past old new ⌝ }
+// By the two thresholds and the count, from the leap and the base that are held.
+pub fn update_by(future: u64, past: u64, count: u8, held: Leap, old: Held, new: TimeBase) -> Update
+    ensures { λ r. ⌜ r ≡ updateOf future past count held old new ⌝ }
 {
     match old {
         Held::Unset => Update {
@@ -39,7 +40,7 @@ pub fn update_by(future: u64, past: u64, old: Held, new: TimeBase) -> Update
             let d = clock::minus(time, base.time_at(at));
             Update {
                 answer: FrameAnswer::Updated(d),
-                leap: leap_of(future, past, d),
+                leap: leap_after(future, past, count, held, d),
             }
         }
     }

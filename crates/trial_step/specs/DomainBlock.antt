@@ -1,5 +1,5 @@
 -- A domain block of the trial: 128 bytes of a settings block. Assumes nothing.
-use Prim.Native.Nat.{ℕ, _+_}
+use Prim.Native.Nat.{ℕ, _+_, _%_}
 use mathlib.Core.Bool.{cond}
 use mathlib.Core.List.{List}
 use lib.Dec.{eqb, ltb}
@@ -35,16 +35,20 @@ idsAt item at = record { sync = bytesAt 16 item at; fup = bytesAt 16 item (at + 
 abbrev pub confirmationTime : ℕ → ℕ
 confirmationTime time = cond (ltb time 4294967295) time 4294967295
 
+-- ---- The count of a leap bit is coded less one, so that 0 is paper 01's rule; 255 is a count of 0, out of range.
+abbrev pub clearCount : (code : ℕ) → ℕ
+clearCount code = (code + 1) % 256
+
 -- ---- Settings that no node takes: a slave with J 0.
 abbrev pub noSettings : DomainSettings
 noSettings = slaveHeld absentHeld
 
--- ---- A domain block, from `at` on: role, check mode, J, secured, user bytes 0 to 2, a spare byte; then F,
+-- ---- A domain block, from `at` on: role, check mode, J, secured, user bytes 0 to 2, the count's code; then F,
 -- L, future, past, P, C; then the DataIDs. A role's settings alone are read.
 abbrev pub slaveAs : Mode → List ℕ → (at : ℕ) → DomainSettings
 slaveAs (mode.Is m) item at =
     asSlave (getD item (at + 2) 0) (longAt item (at + 8)) (longAt item (at + 16)) (longAt item (at + 24))
-    (longAt item (at + 32)) m (idsAt item (at + 56))
+    (longAt item (at + 32)) (clearCount (getD item (at + 7) 0)) m (idsAt item (at + 56))
 slaveAs mode.Unknown item at = noSettings
 
 abbrev pub masterAs : Sends → List ℕ → (at : ℕ) → DomainSettings

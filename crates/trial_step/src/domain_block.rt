@@ -17,6 +17,7 @@ ghost use Rattle.trial_step.specs.DomainBlock.{
   noSettings,
   idsAt,
   confirmationTime,
+  clearCount,
   slaveAs,
   masterAs,
   domainAt,
@@ -63,6 +64,7 @@ fn slave(item: &[u8], at: u16, mode: Mode) -> DomainSettings
             role: Role::Slave,
             mode,
             jump_width: byte_at(item, at as usize + 2),
+            clear_count: clear_count(byte_at(item, at as usize + 7)),
             security: Security::Plain,
             user: UserBytes(0, 0, 0),
         },
@@ -86,6 +88,7 @@ fn master(item: &[u8], at: u16, sends: Sends) -> DomainSettings
             role: Role::Master,
             mode: CheckMode::Validated,
             jump_width: 0,
+            clear_count: 0,
             security,
             user: UserBytes(
                 byte_at(item, at as usize + 4),
@@ -118,6 +121,13 @@ fn confirmation_time(time: u64) -> u32
     }
 }
 
+// One more than the code, so that 0 is 1 and 254 is 255; 255 is 0, which is out of range.
+fn clear_count(code: u8) -> u8
+    ensures { λ r. ⌜ r ≡ clearCount code ⌝ }
+{
+    if code < 255 { code + 1 } else { 0 }
+}
+
 // Out of range: a slave with J 0.
 fn no_settings() -> DomainSettings
     ensures { λ r. ⌜ r ≡ noSettings ⌝ }
@@ -136,6 +146,7 @@ fn no_settings() -> DomainSettings
         role: Role::Slave,
         mode: CheckMode::Validated,
         jump_width: 0,
+        clear_count: 0,
         security: Security::Plain,
         user: UserBytes(0, 0, 0),
     }

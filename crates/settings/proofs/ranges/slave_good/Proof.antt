@@ -1,15 +1,15 @@
 -- `settings::ranges::slave_good` meets its contract: the test that led to a refusal is out of a range, and where none
--- did the last range decides.
+-- did the rules on leaps decide.
 -- Assumes nothing.
 use Prim.Native.Nat.{_≤_, _<_}
-use mathlib.Core.Path.{_≡_}
+use mathlib.Core.Path.{_≡_, _∙_}
 use mathlib.Core.Bool.{false}
 use native.Mathlib.Omega.{arith}
-use lib.Dec.{leb}
 use borrow.Author.Tests.{le-leb, lt-ltb}
+use borrow.Author.Needs.{needs}
 use Rattle.promise.proofs.Tests.{refuted}
 use Rattle.settings.specs.declared.domain_settings.DomainSettings.{DomainSettings}
-use Rattle.settings.specs.Ranges.{slaveGood}
+use Rattle.settings.specs.Ranges.{leapsGood, slaveGood}
 use Rattle.settings.proofs.ranges.Laws.{SlaveRange, slave-range}
 use Rattle.settings.proofs.ranges.slave_good.Statement.{statement}
 use Rattle.settings.proofs.ranges.slave_good.Tie as tie
@@ -17,14 +17,13 @@ use Rattle.settings.proofs.ranges.slave_good.Tie as tie
 refused : (s : DomainSettings) → (SlaveRange s → ⊥) → false ≡ slaveGood s
 refused s never = refuted (slaveGood s) (λ e. never (slave-range s e))
 
--- all but the last
+-- all but the leaps
 record InRange (s : DomainSettings) : Type 0 where
   jump : (1 ≤ s .«jump_width») × (s .«jump_width» ≤ 15)
   follow : (1 ≤ s .«follow_up_time») × (s .«follow_up_time» ≤ 10000000000)
   loss : (s .«follow_up_time» < s .«loss_time») × (s .«loss_time» ≤ 1000000000000)
-  future : s .«future_threshold» ≤ 1000000000000
 
-last : (s : DomainSettings) → InRange s → leb (s .«past_threshold») 1000000000000 ≡ slaveGood s
+last : (s : DomainSettings) → InRange s → leapsGood s ≡ slaveGood s
 last s r =
     rw (
       le-leb _ _ (r .jump .0),
@@ -33,7 +32,6 @@ last s r =
       le-leb _ _ (r .follow .1),
       lt-ltb _ _ (r .loss .0),
       le-leb _ _ (r .loss .1),
-      le-leb _ _ (r .future),
     )
 
 -- the settings, after each test
@@ -55,9 +53,6 @@ fifth c = fourth (c .before .before)
 abbrev sixth : tie.Else6 → DomainSettings
 sixth c = fifth (c .before .before)
 
-abbrev seventh : tie.Else7 → DomainSettings
-seventh c = sixth (c .before .before)
-
 returns : tie.Need-returns
 returns c = refused (c .before .before .args .settings) (λ r. omega (arith, c .if1 .taken))
 
@@ -76,13 +71,13 @@ returns-5 c = refused (fourth (c .before .before)) (λ r. omega (arith, c .if5 .
 returns-6 : tie.Need-returns-6
 returns-6 c = refused (fifth (c .before .before)) (λ r. omega (arith, c .if6 .taken))
 
-returns-7 : tie.Need-returns-7
-returns-7 c = refused (sixth (c .before .before)) (λ r. omega (arith, c .if7 .taken))
+leaps-good-requires : tie.Need-leaps-good-requires
+leaps-good-requires c κs = search needs
 
-returns-8 : tie.Need-returns-8
-returns-8 c = last (seventh (c .before)) (omega arith)
+returns-7 : tie.Need-returns-7
+returns-7 c = c .leaps-good .ensures ∙ last (sixth (c .before)) (omega arith)
 
 pub slave-good-spec : {M : Type 1} → statement M
 slave-good-spec =
     tie.close
-    (tie.spec returns returns-2 returns-3 returns-4 returns-5 returns-6 returns-7 returns-8)
+    (tie.spec returns returns-2 returns-3 returns-4 returns-5 returns-6 leaps-good-requires returns-7)

@@ -33,8 +33,8 @@ time-at-requires c κs = search needs
 minus-requires : tie.Need-minus-requires
 minus-requires c κs = search needs
 
-leap-of-requires : tie.Need-leap-of-requires
-leap-of-requires c κs = search needs
+leap-after-requires : tie.Need-leap-after-requires
+leap-after-requires c κs = search needs
 
 returns : tie.Need-returns
 returns c = rw (c .enum-told .given .1)
@@ -43,7 +43,7 @@ returns-2 : tie.Need-returns-2
 returns-2 c =
     let at = c .before in
     let old = at .before .before .before .before .before .old in
-    rw (c .leap-of .ensures, same at, moved at, old .given .1)
+    rw (c .leap-after .ensures, same at, moved at, old .given .1)
 
 pub update-by-spec : {M : Type 1} → statement M
 update-by-spec =
@@ -53,6 +53,6 @@ update-by-spec =
     enum-known-old
     time-at-requires
     minus-requires
-    leap-of-requires
+    leap-after-requires
     returns
     returns-2)

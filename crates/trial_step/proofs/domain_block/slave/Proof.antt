@@ -49,12 +49,22 @@ add-byte-at c = search needs
 byte-at-requires : tie.Need-byte-at-requires
 byte-at-requires c κs = search needs
 
+add-byte-at-2 : tie.Need-add-byte-at-2
+add-byte-at-2 c = search needs
+
+byte-at-requires-2 : tie.Need-byte-at-requires-2
+byte-at-requires-2 c κs = search needs
+
+clear-count-requires : tie.Need-clear-count-requires
+clear-count-requires c κs = search needs
+
 returns : tie.Need-returns
 returns c = search needs
 
 returns-2 : tie.Need-returns-2
 returns-2 c =
-    let long4 = c .before .before in
+    let byte = c .before .before in
+    let long4 = byte .before .before in
     let long2 = long4 .before .before in
     let known = long2 .before .before in
     rw (
@@ -62,8 +72,10 @@ returns-2 c =
       long2 .long-at2 .ensures,
       long4 .before .long-at3 .ensures,
       long4 .long-at4 .ensures,
-      c .before .ids-at .ensures,
-      c .byte-at .ensures,
+      byte .before .ids-at .ensures,
+      byte .byte-at .ensures,
+      c .clear-count .ensures,
+      c .before .byte-at2 .ensures,
       known .before .mode .given .1,
     )
 
@@ -86,5 +98,8 @@ slave-spec =
     ids-at-requires
     add-byte-at
     byte-at-requires
+    add-byte-at-2
+    byte-at-requires-2
+    clear-count-requires
     returns
     returns-2)

@@ -1,4 +1,4 @@
--- `slave_update::leap::leap_of` meets its contract: at each return the tests that led there are the
+-- `slave_update::leap::leap_after` meets its contract: at each return the tests that led there are the
 -- definition's.
 -- Assumes nothing.
 use mathlib.Core.Path.{_≡_, sym, ap, _∙_}
@@ -6,8 +6,8 @@ use mir.Syntax.{w64}
 use mir.ValLaws.{toZ-ofZ}
 use Rattle.slave_update.specs.Leap.{isFuture, isPast}
 use borrow.Author.Needs.{needs}
-use Rattle.slave_update.proofs.leap.leap_of.Statement.{statement}
-use Rattle.slave_update.proofs.leap.leap_of.Tie as tie
+use Rattle.slave_update.proofs.leap.leap_after.Statement.{statement}
+use Rattle.slave_update.proofs.leap.leap_after.Tie as tie
 
 future : (c : tie.After-is-future) → let a = c .before .args in c .is-future .result ≡ isFuture (a .future) (a .d)
 future c =
@@ -33,10 +33,20 @@ returns-2 c =
     let else = c .before .before in
     rw (sym (future (else .before)) ∙ else .if1 .left, sym (past (c .before)) ∙ c .if2 .taken)
 
+calmer-requires : tie.Need-calmer-requires
+calmer-requires c κs = search needs
+
 returns-3 : tie.Need-returns-3
 returns-3 c =
-    let else = c .before .before in
-    rw (sym (future (else .before)) ∙ else .if1 .left, sym (past (c .before)) ∙ c .if2 .left)
+    let at = c .before in
+    let else = at .before .before in
+    rw (
+      sym (future (else .before)) ∙ else .if1 .left,
+      sym (past (at .before)) ∙ at .if2 .left,
+      c .calmer .ensures,
+    )
 
-pub leap-of-spec : {M : Type 1} → statement M
-leap-of-spec = tie.close (tie.spec is-future-requires returns is-past-requires returns-2 returns-3)
+pub leap-after-spec : {M : Type 1} → statement M
+leap-after-spec =
+    tie.close
+    (tie.spec is-future-requires returns is-past-requires returns-2 calmer-requires returns-3)
