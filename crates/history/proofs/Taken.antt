@@ -79,8 +79,8 @@ module _ (k : Link) (l : Linked k) (moment : ℕ) (h : History) where
       let limit =
       ap (λ (s : DomainSettings). s .«follow_up_time») (slave-settings k l (here .before) (here .fine .calls .0)) in
       let none =
-      update-taken (d .settings .«future_threshold») (d .settings .«past_threshold») (d .settings .«clear_count») (d .leap)
-      (d .base) (newBase open-pair v) in
+      update-taken (d .settings .«future_threshold») (d .settings .«past_threshold») (d .settings .«clear_count»)
+      (d .leap) (d .base) (newBase open-pair v) in
       let taken =
       taken-as d open-pair (f .at) v
       (record { held = is-open; young = omega (arith, limit, in-time); same = refl; in-range = omega arith })

@@ -275,8 +275,9 @@ module _ (i : ℕ) (kept t : VirtualLocalTime) (d : Domain) (g : RecordGood i ke
         either (λ (k : VirtualLocalTime). RecordGood i k d) (eqb (numberOf refusal) 0) at-t g
     fup-as (With p) f o h =
         let u = updateIn d (d .base) (newBase p f) in
+        let below = update-below _ count-least _ _ (d .leap) (d .base) (newBase p f) in
         subst (λ (n : ℕ). RecordGood i (keptAfter n kept t) (updatedOf d p f (u .leap)))
-        (sym (update-taken _ _ _ _ (d .base) (newBase p f))) (taken p f (u .leap) (update-below _ count-least _ _ (d .leap) (d .base) (newBase p f)) o h)
+        (sym (update-taken _ _ _ _ (d .base) (newBase p f))) (taken p f (u .leap) below o h)
 
     kind-step : (values : Frame) → Carried values → StepGood (kindOf d t values)
     kind-step (sync s) c = sync-step s c

@@ -1,4 +1,5 @@
-// Leaps: D against the two thresholds, and the run of one that is held against the count. A leap is written with its run.
+// Leaps: D against the two thresholds, and the run of one that is held against the count. A leap is written with its
+// run.
 use domain::Leap;
 use slave_update::leap_after;
 use test_line as line;

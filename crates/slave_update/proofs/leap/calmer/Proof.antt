@@ -1,4 +1,5 @@
--- `slave_update::leap::calmer` meets its contract: each arm knows the leap held, and `goes_on` is the definition's test.
+-- `slave_update::leap::calmer` meets its contract: each arm knows the leap held, and `goes_on` is the definition's
+-- test.
 -- Assumes nothing.
 use Prim.Native.Nat.{_+_}
 use mathlib.Core.Path.{sym, _∙_}
