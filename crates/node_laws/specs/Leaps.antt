@@ -7,7 +7,6 @@ use lib.Dec.{eqb}
 use lib.IntN.{ℤ}
 use lib.ListN.{length}
 use Rattle.settings.specs.declared.domain_settings.DomainSettings.{DomainSettings}
-use Rattle.domain.specs.declared.Domain.{Domain}
 use Rattle.domain.specs.declared.Leap.{Leap}
 use Rattle.domain.specs.declared.Leap.the-variants.{None}
 use Rattle.domain.specs.Records.{recordAt}
