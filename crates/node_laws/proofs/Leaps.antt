@@ -195,21 +195,22 @@ leap-goes n i cs before row d l least h =
 -- ---- such calls there are: the bench's slave with its first time, a leap by 501 ms, and an update by 0, with a set of
 -- the master between them; its count is 1
 
-abbrev heard : (seconds counter first : ℕ) (nanoseconds : List ℕ) → List Call
-heard seconds counter first nanoseconds =
-    frame (record { 0 = seconds * 1000000000 })
-    (0x10 ∷ 0 ∷ (0x10 + counter) ∷ 0 ∷ 0 ∷ 0 ∷ 0 ∷ (first + seconds) ∷ [])
-    ∷ frame (record { 0 = seconds * 1000000000 }) (0x18 ∷ 0 ∷ (0x10 + counter) ∷ 0 ∷ nanoseconds)
+-- a SYNC of domain 1 at so many seconds, with 100 s more, and its FUP with the nanoseconds' bytes
+abbrev heard : (seconds : ℕ) (nanoseconds : List ℕ) → List Call
+heard seconds nanoseconds =
+    let t : VirtualLocalTime = record { 0 = seconds * 1000000000 } in
+    frame t (0x10 ∷ 0 ∷ (0x10 + seconds) ∷ 0 ∷ 0 ∷ 0 ∷ 0 ∷ (100 + seconds) ∷ [])
+    ∷ frame t (0x18 ∷ 0 ∷ (0x10 + seconds) ∷ 0 ∷ nanoseconds)
     ∷ []
 
 abbrev begun : Node
-begun = nodeAfterAll (newOf (benchWith 2) .node) (heard 1 1 100 (0 ∷ 0 ∷ 0 ∷ 0 ∷ []))
+begun = nodeAfterAll (newOf (benchWith 2) .node) (heard 1 (0 ∷ 0 ∷ 0 ∷ 0 ∷ []))
 
 abbrev leaps : List Call
-leaps = heard 2 2 100 (0x1D ∷ 0xDC ∷ 0xA7 ∷ 0x40 ∷ [])
+leaps = heard 2 (0x1D ∷ 0xDC ∷ 0xA7 ∷ 0x40 ∷ [])
 
 abbrev later : List Call
-later = leaps ++ set 2 (record { 0 = 2000000000 }) 7 0 ∷ heard 3 3 100 (0x1D ∷ 0xDC ∷ 0xA7 ∷ 0x40 ∷ [])
+later = leaps ++ set 2 (record { 0 = 2000000000 }) 7 0 ∷ heard 3 (0x1D ∷ 0xDC ∷ 0xA7 ∷ 0x40 ∷ [])
 
 shows-met : Leapt begun 1 leaps [] [] (pos 501000000)
 shows-met =
