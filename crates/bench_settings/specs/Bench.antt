@@ -11,7 +11,7 @@ use Rattle.settings.specs.Domain.{absentHeld, asSlave, asMaster}
 -- ---- "domain 1 slave, not validated, J 2, F 100 ms, L 2 s, both thresholds 500 ms", with any J; a count of 1, paper
 -- 01's leap rule
 abbrev pub slaveWith : (j : ℕ) → DomainSettings
-slaveWith j = asSlave j 100000000 2000000000 500000000 500000000 1 NotValidated (absentHeld .ids)
+slaveWith j = asSlave j 0 100000000 2000000000 500000000 500000000 1 NotValidated (absentHeld .ids)
 
 -- ---- "domain 2 master, plain, P 1 s, C 200 ms, user bytes 0"
 abbrev pub benchMaster : DomainSettings

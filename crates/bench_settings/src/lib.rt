@@ -37,7 +37,7 @@ pub fn bench_settings() -> NodeSettings
     }
 }
 
-// Not validated, J 2, F 100 ms, L 2 s, both thresholds 500 ms; a leap bit is off at the next update within them.
+// Not validated, J 2, H 0, F 100 ms, L 2 s, both thresholds 500 ms; a leap bit is off at the next update within them.
 fn slave() -> DomainSettings
     ensures { λ r. ⌜ r ≡ slaveWith 2 ⌝ }
 {
@@ -55,6 +55,7 @@ fn slave() -> DomainSettings
         role: Role::Slave,
         mode: CheckMode::NotValidated,
         jump_width: 2,
+        hysteresis: 0,
         clear_count: 1,
         security: Security::Plain,
         user: UserBytes(0, 0, 0),
@@ -79,6 +80,7 @@ fn master() -> DomainSettings
         role: Role::Master,
         mode: CheckMode::Validated,
         jump_width: 0,
+        hysteresis: 0,
         clear_count: 0,
         security: Security::Plain,
         user: UserBytes(0, 0, 0),

@@ -1,7 +1,9 @@
--- Paper 01: a frame for one record: 1, 2, 3, 4 (`frameAdmitted`), 5, then 6, or 7, 8, 9 (`frameOf`).
--- Assumes nothing.
+-- Paper 01, and paper 02, request 5: a frame for one record: 1, 2, 3, 4 (`frameAdmitted`), 5, then 6 and 15, or 7, 8, 9
+-- (`frameOf`). Assumes nothing.
 use Prim.Native.Nat.{ℕ}
+use mathlib.Core.Bool.{cond}
 use mathlib.Core.List.{List}
+use lib.Dec.{eqb}
 use Rattle.clock.specs.declared.reading.VirtualLocalTime.{VirtualLocalTime}
 use Rattle.admission.specs.declared.frames.FrameAdmission.{FrameAdmission}
 use Rattle.admission.specs.declared.frames.FrameAdmission.the-variants.{Admitted, Refused as refused}
@@ -14,9 +16,13 @@ use Rattle.slave_frame.specs.Step.{frameOf}
 use Rattle.call_frame.specs.declared.FrameCall.{FrameCall}
 use Rattle.admission.specs.Kept.{keptAfter}
 
+-- ---- the reading kept after a frame: of a SYNC under 15 "its reading is kept"
+abbrev pub frameKept : (number : ℕ) → (kept t : VirtualLocalTime) → VirtualLocalTime
+frameKept number kept t = cond (eqb number 15) t (keptAfter number kept t)
+
 abbrev pub frameStepped : FrameStep → (kept t : VirtualLocalTime) → FrameCall
 frameStepped s kept t =
-    record { answer = s .answer; domain = s .domain; kept = keptAfter (frameNumber (s .answer)) kept t }
+    record { answer = s .answer; domain = s .domain; kept = frameKept (frameNumber (s .answer)) kept t }
 
 abbrev pub frameCallAs : FrameAdmission → Domain → (kept t : VirtualLocalTime) → List ℕ → FrameCall
 frameCallAs (refused refusal) d kept t bytes = record { answer = Refused refusal; domain = d; kept = kept }

@@ -1,4 +1,4 @@
-// A frame for one record (paper 01, "A slave's domain" and "Refusal numbers").
+// A frame for one record (paper 01, "A slave's domain" and "Refusal numbers", and paper 02, request 5).
 use admission::FrameAdmission;
 use admission::admit_frame;
 use admission::kept_after;
@@ -7,7 +7,7 @@ use domain::Domain;
 use slave_answer::FrameAnswer;
 use slave_frame::take_frame;
 ghost use mathlib.Core.Path.{_≡_};
-ghost use Rattle.call_frame.specs.FrameCall.{frameCallOf};
+ghost use Rattle.call_frame.specs.FrameCall.{frameKept, frameCallOf};
 
 pub struct FrameCall {
     pub answer: FrameAnswer,
@@ -15,7 +15,7 @@ pub struct FrameCall {
     pub kept: VirtualLocalTime,
 }
 
-// 1, 2, 3, 4, 5; then 6, or 7, 8, 9.
+// 1, 2, 3, 4, 5; then 6, 15, or 7, 8, 9.
 pub fn frame_call(
     domain: Domain,
     kept: VirtualLocalTime,
@@ -39,8 +39,19 @@ pub fn frame_call(
             FrameCall {
                 answer,
                 domain: after,
-                kept: kept_after(answer.number(), kept, t),
+                kept: frame_kept(answer.number(), kept, t),
             }
         }
+    }
+}
+
+// The reading kept after a frame: its own after 0, and after 15.
+fn frame_kept(number: u8, kept: VirtualLocalTime, t: VirtualLocalTime) -> VirtualLocalTime
+    ensures { λ r. ⌜ r ≡ frameKept number kept t ⌝ }
+{
+    if number == 15 {
+        t
+    } else {
+        kept_after(number, kept, t)
     }
 }

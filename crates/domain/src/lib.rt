@@ -25,10 +25,14 @@ pub enum Pairing {
     Open(Pair),
 }
 
-// The SYNC that a slave accepted last.
+// The SYNC that a slave accepted last, and the row: the SYNCs with a good counter since the first one, up to H.
 pub enum LastSync {
     Unknown,
-    Seen { counter: u8, at: VirtualLocalTime },
+    Seen {
+        counter: u8,
+        row: u8,
+        at: VirtualLocalTime,
+    },
 }
 
 // The SYNC that a master sent last: none yet; open, with its whole time; or no longer open, since its

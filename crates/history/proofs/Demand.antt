@@ -7,6 +7,7 @@ use Rattle.history.proofs.Confirms.{each-fup-confirms}
 use Rattle.history.proofs.Held.{each-time-held}
 use Rattle.history.proofs.One.{each-sync-one, each-time-near}
 use Rattle.history.proofs.Taken.{each-pair-taken}
+use Rattle.history.proofs.Spaced.{each-spaced-taken}
 
 pub demand-three : DemandThree
 demand-three =
@@ -17,4 +18,5 @@ demand-three =
       one = each-sync-one;
       near = each-time-near;
       taken = each-pair-taken;
+      spaced = each-spaced-taken;
     }

@@ -8,7 +8,6 @@ use mathlib.Core.Bool.{Bool, true, false, cond}
 use mathlib.Core.Logic.{_⊎_, inl, ⊎-elim}
 use mathlib.Core.List.{List, [], _∷_, _++_, append-assoc}
 use native.Mathlib.Omega.{arith}
-use Rattle.promise.proofs.Tests.{either}
 use Rattle.clock.specs.declared.reading.VirtualLocalTime.{VirtualLocalTime}
 use Rattle.clock.specs.declared.time.GlobalTime.{GlobalTime}
 use Rattle.clock.specs.declared.base.Held.{Held}
@@ -28,8 +27,9 @@ use Rattle.domain.specs.declared.Pairing.the-variants.{Waiting, Open}
 use Rattle.slave_pair.specs.declared.joining.Joined.{Joined}
 use Rattle.slave_pair.proofs.Laws.{Joins, by-joined}
 use Rattle.slave_update.specs.Update.{newBase}
-use Rattle.slave_answer.specs.declared.FrameStep.{FrameStep}
-use Rattle.slave_sync.specs.Sync.{takesSync}
+use Rattle.slave_counter.specs.declared.RowCheck.{RowCheck}
+use Rattle.slave_counter.specs.declared.RowCheck.the-variants.{NotGood, Joins as joins-row, Complete}
+use Rattle.slave_sync.specs.Sync.{checkFor, syncAs}
 use Rattle.slave_fup.specs.Fup.{fupAs}
 use Rattle.slave_frame.specs.Step.{kindOf}
 use Rattle.master_follow.specs.Follow.{wholeOf, ovsOf}
@@ -188,13 +188,14 @@ module _ (k : Link) (exceed : Exceed k) (h : History) (row : RowOf (masterSettin
   still : Kept k (x ∷ h) d
   still = kept-later k x h le d g
 
-  sync-kept :
-      (c : ℕ) → SyncSent (masterSettings k) (k .domain) c (copy .of) →
-      Kept k (x ∷ h) (kindOf d t (sync (syncValues (masterSettings k) (k .domain) c (copy .of .time .0))) .domain)
-  sync-kept c sy =
-      either (λ (s : FrameStep). Kept k (x ∷ h) (s .domain))
-      (takesSync d t (syncValues (masterSettings k) (k .domain) c (copy .of .time .0)))
-      (record {
+  -- a SYNC that is not accepted leaves the pair and the base
+  sync-as :
+      (c : ℕ) → SyncSent (masterSettings k) (k .domain) c (copy .of) → (check : RowCheck) →
+      Kept k (x ∷ h) (syncAs check d t (syncValues (masterSettings k) (k .domain) c (copy .of .time .0)) .domain)
+  sync-as c sy (NotGood row) = record { pair = still .pair; base = still .base }
+  sync-as c sy (joins-row row) = record { pair = still .pair; base = still .base }
+  sync-as c sy (Complete row) =
+      record {
         pair =
             record {
               of = copy .of;
@@ -210,8 +211,12 @@ module _ (k : Link) (exceed : Exceed k) (h : History) (row : RowOf (masterSettin
               copied = copy .copied .sent;
             };
         base = still .base;
-      })
-      still
+      }
+
+  sync-kept :
+      (c : ℕ) → SyncSent (masterSettings k) (k .domain) c (copy .of) →
+      Kept k (x ∷ h) (kindOf d t (sync (syncValues (masterSettings k) (k .domain) c (copy .of .time .0))) .domain)
+  sync-kept c sy = sync-as c sy (checkFor d t (syncValues (masterSettings k) (k .domain) c (copy .of .time .0)))
 
   abbrev values : (c : ℕ) (y : Sent) → Fup
   values c y =

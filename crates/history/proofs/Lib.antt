@@ -15,4 +15,5 @@ pub mod HeardAll
 pub mod Since
 pub mod Follows
 pub mod Taken
+pub mod Spaced
 pub mod Demand

@@ -23,6 +23,7 @@ use Rattle.clock.specs.declared.reading.VirtualLocalTime.{VirtualLocalTime}
 use Rattle.clock.specs.Reading.{isReading}
 use Rattle.frame.specs.declared.types.FrameType.{FrameType}
 use Rattle.frame.specs.declared.types.FrameType.the-variants.{PlainSync, SecuredSync, PlainFup, SecuredFup, Unknown}
+use Rattle.frame.specs.declared.values.Sync.{Sync}
 use Rattle.frame.specs.declared.values.Fup.{Fup}
 use Rattle.frame.specs.declared.values.Frame.{Frame}
 use Rattle.frame.specs.declared.values.Frame.the-variants.{Sync as sync, Fup as fup}
@@ -56,7 +57,9 @@ use Rattle.slave_pair.specs.declared.joining.Joined.the-variants.{With, Refused
 use Rattle.slave_pair.specs.Join.{joinedOf}
 use Rattle.slave_answer.specs.Answer.{frameNumber}
 use Rattle.slave_answer.specs.declared.FrameStep.{FrameStep}
-use Rattle.slave_sync.specs.Sync.{takesSync}
+use Rattle.slave_counter.specs.declared.RowCheck.{RowCheck}
+use Rattle.slave_counter.specs.declared.RowCheck.the-variants.{NotGood, Joins, Complete}
+use Rattle.slave_sync.specs.Sync.{checkFor, syncAs}
 use Rattle.slave_fup.specs.Fup.{fupAs}
 use Rattle.slave_frame.specs.Step.{kindOf, frameOf}
 use Rattle.master_set.specs.Set.{setNumber, setOf}
@@ -172,8 +175,13 @@ module _ (d : Domain) (t : VirtualLocalTime) where
   fup-holds (not-joined refusal) f = refl
   fup-holds (With p) f = refl
 
+  sync-holds : (k : RowCheck) (s : Sync) → StepHolds (syncAs k d t s)
+  sync-holds (NotGood row) s = refl
+  sync-holds (Joins row) s = refl
+  sync-holds (Complete row) s = refl
+
   kind-holds : (values : Frame) → StepHolds (kindOf d t values)
-  kind-holds (sync s) = either StepHolds (takesSync d t s) refl refl
+  kind-holds (sync s) = sync-holds (checkFor d t s) s
   kind-holds (fup f) = fup-holds (joinedOf (d .settings .«follow_up_time») (d .pairing) t f) f
 
   call-holds :
@@ -371,7 +379,8 @@ module _ (P : VirtualLocalTime → Type 0) (kept t : VirtualLocalTime) (old : P 
   frame-keeps : (f : FrameAdmission) (d : Domain) (bytes : List ℕ) → P (frameCallAs f d kept t bytes .kept)
   frame-keeps (frame-refused refusal) d bytes = old
   frame-keeps (frame-admitted values) d bytes =
-      either P (eqb (frameNumber (frameOf d t bytes values .answer)) 0) new old
+      let number = frameNumber (frameOf d t bytes values .answer) in
+      either P (eqb number 15) new (either P (eqb number 0) new old)
 
   set-keeps : (f : Admission) (d : Domain) (s ns : ℕ) → P (setCallAs f d kept t s ns .kept)
   set-keeps (Refused refusal) d s ns = old

@@ -27,8 +27,8 @@ use Rattle.slave_answer.specs.declared.FrameStep.{FrameStep}
 use Rattle.slave_fup.specs.Fup.{fupAs, fupOf}
 use Rattle.master_follow.specs.Follow.{wholeOf, ovsOf}
 use Rattle.node_call.specs.Calls.{numbered}
-use Rattle.history.specs.History.{Link, masterSettings, slaveSettings, onSlave, History, slaveRecord, Sent}
-use Rattle.history.specs.Demand.{Linked, Copy, sendings, arrivals, Taken, EachPairTaken}
+use Rattle.history.specs.History.{Link, masterSettings, slaveSettings, History, slaveRecord, Sent}
+use Rattle.history.specs.Demand.{Linked, Copy, sendings, arrivals, InRow, Taken, EachPairTaken}
 use Rattle.history.proofs.Row.{syncValues, fupValues, SyncSent}
 use Rattle.history.proofs.Rows.{whole-time, Pair, RowOf, fup-here, fup-read}
 use Rattle.history.proofs.Since.{row-older, row-since, Fine, fine-before, Found, found}
@@ -53,13 +53,13 @@ module _ (k : Link) (l : Linked k) (moment : ℕ) (h : History) where
   opened :
       (rest : List Sent) (f y : Copy) (older : List Copy) (here : Found k moment h f (y ∷ older)) →
       RowOf m i (sendings (y ∷ older) ++ rest) → (c : ℕ) → SyncSent m i c (y .of) →
-      moment + slaveSettings k .«loss_time» ≤ onSlave k (y .at) →
+      InRow k moment (slaveSettings k .hysteresis) y older →
       slaveRecord k (here .before) .pairing ≡ Open (pairOf (y .at) (syncValues m i c (y .of .time .0)))
-  opened rest f y older here r c sent late =
+  opened rest f y older here r c sent in-row =
       follows k l moment rest
       (here .before)
       (fine-before k _ (here .before) (here .fine))
-      (y ∷ older) (here .next) (r .latest) (r .row) .pair c sent late
+      (y ∷ older) (here .next) (r .latest) (r .row) .pair c sent in-row
 
   -- its FUP is taken
   closed :
@@ -103,7 +103,7 @@ module _ (k : Link) (l : Linked k) (moment : ℕ) (h : History) where
       }
 
 pub each-pair-taken : EachPairTaken
-each-pair-taken k l h calls fall range moment o newer older f y split is-fup in-time late =
+each-pair-taken k l h calls fall range moment o newer older f y split is-fup in-time in-row =
     let m = masterSettings k in
     let fine : Fine k h = record { calls = calls; fall = fall; range = range } in
     let here = found k moment h fine newer (y ∷ older) f (o .only ∙ ap arrivals split) in
@@ -111,5 +111,5 @@ each-pair-taken k l h calls fall range moment o newer older f y split is-fup in-
     let before = row-older k (r .rest) (f ∷ []) (y ∷ older) (r .row) in
     let p = fup-here m (k .domain) (r .row .latest) (f .of) (y .of) _ (r .row .row) is-fup in
     closed k l moment h f y older here p
-    (opened k l moment h (r .rest) f y older here before (p .counter) (p .sync) (omega (arith, late)))
+    (opened k l moment h (r .rest) f y older here before (p .counter) (p .sync) in-row)
     in-time

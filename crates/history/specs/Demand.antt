@@ -1,6 +1,6 @@
--- Demand 3, word for word, as hypotheses over a history and statements; at the end they stand together. Assumes
--- nothing.
-use Prim.Native.Nat.{ℕ, _+_, _*_, _≤_, _<_}
+-- Demand 3, word for word, as hypotheses over a history and statements; at the end they stand together. Its last
+-- sentence is that of paper 02, request 5. Assumes nothing.
+use Prim.Native.Nat.{ℕ, zero, suc, _+_, _*_, _≤_, _<_}
 use mathlib.Core.Path.{_≡_}
 use mathlib.Core.Bool.{true, cond}
 use mathlib.Core.List.{List, [], _∷_, _++_, map}
@@ -228,6 +228,17 @@ pub record Taken (k : Link) (moment : ℕ) (h : History) (fup sync : Copy) (olde
       slaveRecord k (atSlave (frame (fup .at) (fup .of .bytes)) ∷ before) .updates
       ≡ nextUpdate (slaveRecord k before .updates)
 
+-- ---- "the last sentence then counts from H pairs later, and needs SYNC arrivals at most L apart": before y came H
+-- SYNCs (copies, the newest first; FUPs stand between them), each at most L before the next, and the first of all "more
+-- than the loss time after that moment". With H 0 that is y.
+abbrev pub InRow : Link → (moment h : ℕ) (y : Copy) (older : List Copy) → Type 0
+InRow k moment zero y older = moment + slaveSettings k .«loss_time» ≤ onSlave k (y .at)
+InRow k moment (suc h) y [] = ⊥
+InRow k moment (suc h) y (q ∷ older) =
+    cond (isSync (q .of))
+    ((spanOf (q .at) (y .at) ≤ slaveSettings k .«loss_time») × InRow k moment h q older)
+    (InRow k moment (suc h) y older)
+
 -- ---- "each FUP within the follow-up time of its SYNC's arrival, then every confirmed pair whose SYNC arrives more
 -- than the loss time after that moment is taken"
 abbrev pub EachPairTaken : Type 0
@@ -236,7 +247,35 @@ EachPairTaken =
     (moment : ℕ) → (o : Orderly k moment h) →
     (newer older : List Copy) (fup sync : Copy) → o .copies ≡ newer ++ (fup ∷ sync ∷ older) →
     isFup (fup .of) ≡ true → spanOf (sync .at) (fup .at) ≤ slaveSettings k .«follow_up_time» →
-    moment + slaveSettings k .«loss_time» ≤ onSlave k (sync .at) →
+    InRow k moment (slaveSettings k .hysteresis) sync older →
+    Taken k moment h fup sync older
+
+-- ---- So in the words of the request: where SYNC arrivals are at most L apart, a pair is taken whose SYNC, and at
+-- least H SYNCs before it, arrive "more than the loss time after that moment".
+abbrev pub SyncBefore : Link → (y : Copy) (older : List Copy) → Type 0
+SyncBefore k y [] = Unit {0}
+SyncBefore k y (q ∷ older) =
+    cond (isSync (q .of)) (spanOf (q .at) (y .at) ≤ slaveSettings k .«loss_time») (SyncBefore k y older)
+
+abbrev pub Spaced : Link → List Copy → Type 0
+Spaced k [] = Unit {0}
+Spaced k (y ∷ older) = cond (isSync (y .of)) (SyncBefore k y older) (Unit {0}) × Spaced k older
+
+abbrev pub syncsIn : List Copy → ℕ
+syncsIn [] = 0
+syncsIn (q ∷ older) = cond (isSync (q .of)) (suc (syncsIn older)) (syncsIn older)
+
+abbrev pub copiesSince : Link → (moment : ℕ) → List Copy → List Copy
+copiesSince k = since (λ (c : Copy). onSlave k (c .at))
+
+abbrev pub EachSpacedTaken : Type 0
+EachSpacedTaken =
+    (k : Link) → Linked k → (h : History) → AreCalls h → NeverFall k h → InRange h →
+    (moment : ℕ) → (o : Orderly k moment h) →
+    (newer older : List Copy) (fup sync : Copy) → o .copies ≡ newer ++ (fup ∷ sync ∷ older) →
+    isFup (fup .of) ≡ true → spanOf (sync .at) (fup .at) ≤ slaveSettings k .«follow_up_time» →
+    Spaced k (o .copies) → moment + slaveSettings k .«loss_time» ≤ onSlave k (sync .at) →
+    slaveSettings k .hysteresis ≤ syncsIn (copiesSince k (moment + slaveSettings k .«loss_time») older) →
     Taken k moment h fup sync older
 
 -- ---- what the demand asks of the two nodes, their clocks and the bus but for "exceed" and the moment; each statement
@@ -257,3 +296,4 @@ pub record DemandThree : Type 0 where
   pub one : EachSyncOne
   pub near : EachTimeNear
   pub taken : EachPairTaken
+  pub spaced : EachSpacedTaken

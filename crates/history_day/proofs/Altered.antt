@@ -204,8 +204,8 @@ confirms-unaltered k h f newer older fup sent is =
     }
 
 pub taken-unaltered : EachTakenBy zeroes withCall
-taken-unaltered k h moment newer fup sync older met late =
-    let t = taken-met each-pair-taken k h moment newer fup sync older met (omega arith) in
+taken-unaltered k h moment newer fup sync older met row =
+    let t = taken-met each-pair-taken k h moment newer fup sync older met row in
     record {
       after = t .after;
       before = t .before;

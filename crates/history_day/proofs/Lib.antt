@@ -2,5 +2,6 @@
 pub mod Tests
 pub mod Day
 pub mod Edges
+pub mod Row
 pub mod Second
 pub mod Altered

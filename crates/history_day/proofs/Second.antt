@@ -16,7 +16,7 @@
 use Prim.Native.Nat.{_+_}
 use mathlib.Core.Path.{_≡_, refl, sym, ap, _∙_}
 use mathlib.Core.Bool.{Bool, true, not, false≢true}
-use mathlib.Core.List.{[], _∷_}
+use mathlib.Core.List.{[]}
 use native.Mathlib.Omega.{arith}
 use lib.Dec.{eqb}
 use Rattle.clock.specs.declared.reading.VirtualLocalTime.{VirtualLocalTime}
@@ -118,7 +118,7 @@ pub second-verdicts : verdictsIn secondLink second ≡ secondVerdicts
 unfolding goes
 second-verdicts = refl
 
-pub second-wrap : NextWithin secondLink (arriving 12) 15 (copySync 15 .at) (copySync 16)
+pub second-wrap : NextWithin secondLink (arriving 12) 15 0 (copySync 15 .at) (copySync 16)
 unfolding goes
 second-wrap = record { seen = refl; within = omega arith; next = refl }
 

@@ -3,7 +3,9 @@
 --   linked-by   a link, from its parts
 --   fair        a history that passes the test at each of its calls is fair
 --   held-met    what is gathered of the first sentence is all that it asks
---   taken-met   what is gathered of the last sentence is all that it asks, but for the moment
+--   taken-met   what is gathered of the last sentence is all that it asks, but for the row
+--   taken-from  the last sentence is the one where no SYNC of the row may be earlier
+--   taken-spaced  what is gathered is all that the request's words ask
 --   taken-until the last sentence is the one where FUPs may be no later
 --   all-same    lists whose sendings are the same one by one are the same
 --   every-base  a base passes a test after a part of a history where it does after every part
@@ -11,10 +13,10 @@
 --   not-of-one  a base is of no SYNC where no FUP gives its time with the SYNC before it, or no copy of that SYNC can
 --               have come at its reading
 -- Assumes nothing.
-use Prim.Native.Nat.{ℕ, _+_, _<_}
+use Prim.Native.Nat.{ℕ, zero, suc, _+_, _≤_, _<_}
 use mathlib.Core.Path.{_≡_, refl, sym, ap, subst, _∙_}
 use mathlib.Core.Logic.{inl, inr, ⊎-elim}
-use mathlib.Core.Bool.{Bool, true, false, _&&_, _||_, or-true, true≢false, false≢true}
+use mathlib.Core.Bool.{Bool, true, false, cond, _&&_, _||_, or-true, true≢false, false≢true}
 use mathlib.Core.List.{List, [], _∷_, _++_}
 use native.Mathlib.Omega.{arith}
 use lib.Dec.{eqb, leb}
@@ -51,6 +53,7 @@ use Rattle.history.specs.History.{
   heardBy,
   In,
   isFup,
+  isSync,
 }
 use Rattle.history.specs.Demand.{
   Linked,
@@ -63,11 +66,15 @@ use Rattle.history.specs.Demand.{
   Carried,
   TimeOfOne,
   EachTimeHeld,
+  Copy,
+  InRow,
   EachPairTaken,
+  Spaced,
+  EachSpacedTaken,
   Fair,
 }
 use Rattle.history.proofs.One.{not-after}
-use Rattle.history_day.specs.Met.{HeldMet, TakenFrom, TakenUntil}
+use Rattle.history_day.specs.Met.{HeldMet, TakenIf, atMostL, RowBy, TakenFrom, SpacedBy, TakenUntil}
 
 -- ---- a heard frame is a copy of one of the frames sent
 abbrev same : List ℕ → List ℕ → Bool
@@ -189,10 +196,39 @@ pub held-met : (k : Link) (h : History) (b : TimeBase) → HeldMet k h b → Eac
 held-met k h b m each =
     each k (m .fair .linked) (m .exceed) h (m .fair .calls) (m .fair .never-fall) (m .fair .carried) b (m .holds)
 
-pub taken-met : EachPairTaken → TakenFrom 0
-taken-met each k h moment newer fup sync older m late =
+pub taken-met : EachPairTaken → TakenIf (λ k moment. InRow k moment (slaveSettings k .hysteresis))
+taken-met each k h moment newer fup sync older m row =
     each k (m .fair .linked) h (m .fair .calls) (m .fair .never-fall) (m .fair .in-range) moment (m .orderly)
-    newer older fup sync (m .copies) (m .is-fup) (m .soon) (omega arith)
+    newer older fup sync (m .copies) (m .is-fup) (m .soon) row
+
+-- the row, with its two places as the demand has them
+as-demanded :
+    (k : Link) (moment h : ℕ) (y : Copy) (older : List Copy) → RowBy 0 atMostL k moment h y older →
+    InRow k moment h y older
+as-demanded k moment zero y older row = omega (arith, row)
+as-demanded k moment (suc h) y [] row = row
+as-demanded k moment (suc h) y (q ∷ older) row =
+    by (isSync (q .of)) row (as-demanded k moment h q older) (as-demanded k moment (suc h) y older)
+  where
+    by :
+        (b : Bool) →
+        cond b (atMostL k (spanOf (q .at) (y .at)) × RowBy 0 atMostL k moment h q older)
+        (RowBy 0 atMostL k moment (suc h) y older) →
+        (RowBy 0 atMostL k moment h q older → InRow k moment h q older) →
+        (RowBy 0 atMostL k moment (suc h) y older → InRow k moment (suc h) y older) →
+        cond b ((spanOf (q .at) (y .at) ≤ slaveSettings k .«loss_time») × InRow k moment h q older)
+        (InRow k moment (suc h) y older)
+    by true (near, before) one further = (near, one before)
+    by false before one further = further before
+
+pub taken-from : EachPairTaken → TakenFrom 0
+taken-from each k h moment newer fup sync older m row =
+    taken-met each k h moment newer fup sync older m (as-demanded k moment (slaveSettings k .hysteresis) sync older row)
+
+pub taken-spaced : EachSpacedTaken → SpacedBy 0 Spaced
+taken-spaced each k h moment newer fup sync older m spaced late enough =
+    each k (m .fair .linked) h (m .fair .calls) (m .fair .never-fall) (m .fair .in-range) moment (m .orderly)
+    newer older fup sync (m .copies) (m .is-fup) (m .soon) spaced late (omega (arith, enough))
 
 pub taken-until : EachPairTaken → TakenUntil 0
 taken-until each k h f moment o newer older fup sync copies is-fup soon late =

@@ -50,6 +50,7 @@ use Rattle.history.specs.Demand.{
   heardSince,
   Copy,
   arrivals,
+  InRow,
   Fair,
 }
 use Rattle.history_day.specs.Met.{PairMet}
@@ -219,7 +220,7 @@ pub record TakenBy
 abbrev pub EachTakenBy : (Link → Copy → ℕ) → (Event → History → History) → Type 0
 EachTakenBy answered upTo =
     (k : Link) (h : History) (moment : ℕ) (newer : List Copy) (fup sync : Copy) (older : List Copy) →
-    PairMet k h moment newer fup sync older → moment + slaveSettings k .«loss_time» ≤ onSlave k (sync .at) →
+    PairMet k h moment newer fup sync older → InRow k moment (slaveSettings k .hysteresis) sync older →
     TakenBy answered upTo k moment h fup sync older
 
 abbrev pub zeroes : Link → Copy → ℕ
@@ -365,7 +366,7 @@ listsLink =
       slave =
           record {
             «syncs_per_cycle» = 1;
-            domains = put (dayLink .slave .domains) 5 (slaveFor 1 (millis 300) (millis 2500) Optional noIds);
+            domains = put (dayLink .slave .domains) 5 (slaveFor 1 0 (millis 300) (millis 2500) Optional noIds);
           };
       domain = 5;
       masterAdds = dayLink .masterAdds;

@@ -30,14 +30,14 @@ abbrev dayMaster : DomainSettings
 dayMaster = asMaster (millis 1000) (millis 200) Secured (record { 0 = 0x11; 1 = 0x22; 2 = 0x33 }) dayIds
 
 abbrev daySlave : DomainSettings
-daySlave = slaveFor 1 (millis 300) (millis 2500) Validated dayIds
+daySlave = slaveFor 1 0 (millis 300) (millis 2500) Validated dayIds
 
 -- ---- the master's node is master of domain 9 too, S 2; the slave's node is slave of domain 6 too
 abbrev otherMaster : DomainSettings
 otherMaster = asMaster (millis 1000) (millis 200) Plain (record { 0 = 0x44; 1 = 0x55; 2 = 0x66 }) noIds
 
 abbrev otherSlave : DomainSettings
-otherSlave = slaveFor 2 (millis 300) (millis 2500) NotValidated noIds
+otherSlave = slaveFor 2 0 (millis 300) (millis 2500) NotValidated noIds
 
 -- ---- the slave's clock is 100 s ahead of the master's; E 15 s
 abbrev pub dayLink : Link

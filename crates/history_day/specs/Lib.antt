@@ -3,5 +3,6 @@ pub mod Met
 pub mod Settings
 pub mod Day
 pub mod Edges
+pub mod Row
 pub mod Second
 pub mod Altered

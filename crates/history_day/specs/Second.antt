@@ -117,7 +117,7 @@ abbrev pub secondVerdicts : List CounterVerdict
 secondVerdicts = replicate 18 Good ++ (Free ∷ [])
 
 -- ---- A SYNC that comes at most L after the SYNC accepted last, with the next counter.
-pub record NextWithin (k : Link) (before : History) (last : ℕ) (at : VirtualLocalTime) (sync : Copy) : Type 0 where
-  pub seen : slaveRecord k before .last ≡ Seen last at
+pub record NextWithin (k : Link) (before : History) (last row : ℕ) (at : VirtualLocalTime) (sync : Copy) : Type 0 where
+  pub seen : slaveRecord k before .last ≡ Seen last row at
   pub within : spanOf at (sync .at) ≤ slaveSettings k .«loss_time»
   pub next : counterIn (sync .of) ≡ (last + 1) % counters

@@ -15,9 +15,9 @@ use Rattle.node_call.specs.Calls.{frame, set, cycle, confirm}
 use Rattle.history.specs.History.{Link, Event, atMaster, atSlave}
 use Rattle.history.specs.Demand.{Copy}
 
--- ---- a slave: J, F, L, its check mode, its DataIDs; leaps not checked
-abbrev pub slaveFor : (j f l : ℕ) → CheckMode → DataIds → DomainSettings
-slaveFor j f l mode ids = asSlave j f l 0 0 1 mode ids
+-- ---- a slave: J, H, F, L, its check mode, its DataIDs; leaps not checked
+abbrev pub slaveFor : (j h f l : ℕ) → CheckMode → DataIds → DomainSettings
+slaveFor j h f l mode ids = asSlave j h f l 0 0 1 mode ids
 
 -- ---- sixteen domains, all absent; DataIDs all 0
 abbrev pub absents : List DomainSettings
@@ -48,9 +48,9 @@ arrives t bytes = atSlave (frame (ms t) bytes)
 abbrev pub confirmsIn : (domain t counter : ℕ) → Event
 confirmsIn domain t counter = atMaster (confirm domain (ms t) counter (replicate 8 0))
 
--- ---- domain 0 alone, plain frames, J 1, one clock; P, E, F, L and C in milliseconds
-abbrev pub plainLink : (p e f l c : ℕ) → Link
-plainLink p e f l c =
+-- ---- domain 0 alone, plain frames, J 1, one clock; H, and P, E, F, L and C in milliseconds
+abbrev pub rowLink : (h p e f l c : ℕ) → Link
+rowLink h p e f l c =
     record {
       master =
           record {
@@ -60,13 +60,17 @@ plainLink p e f l c =
       slave =
           record {
             «syncs_per_cycle» = 1;
-            domains = put absents 0 (slaveFor 1 (millis f) (millis l) NotValidated noIds);
+            domains = put absents 0 (slaveFor 1 h (millis f) (millis l) NotValidated noIds);
           };
       domain = 0;
       masterAdds = 0;
       slaveAdds = 0;
       e = millis e;
     }
+
+-- ---- H 0
+abbrev pub plainLink : (p e f l c : ℕ) → Link
+plainLink = rowLink 0
 
 -- ---- The domain is set to 1000 s at 1 s. SYNC n is sent at 1 s and n periods of p ms.
 abbrev pub sets : Event

@@ -23,6 +23,7 @@ pub fn domain(role: Role, period: u64, confirmation_time: u32) -> DomainSettings
         role,
         mode: CheckMode::Ignored,
         jump_width: 0,
+        hysteresis: 0,
         clear_count: 0,
         security: Security::Plain,
         user: UserBytes(0xA0, 0xA1, 0xA2),

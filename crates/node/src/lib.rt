@@ -1,6 +1,7 @@
 // A node (paper 01): sixteen records, the kept reading, S and the round, with its constructor. Its calls have a file
 // each, state by value in and out: a call looks a record up, calls it or goes round, and stores what comes back. No
-// call has a `requires`; each answers, or refuses by a number, and then gives the node back as it was.
+// call has a `requires`; each answers, or refuses by a number, and then, but under 6 and 15, gives the node back as it
+// was.
 pub mod confirms;
 pub mod cycles;
 pub mod frames;

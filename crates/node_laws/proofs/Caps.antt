@@ -12,11 +12,12 @@
 -- Assumes nothing.
 use Prim.Native.Nat.{ℕ, _+_, _-_, _%_, _≤_, _<_}
 use mathlib.Core.Path.{_≡_, refl, sym, ap, _∙_, subst}
-use mathlib.Core.Bool.{Bool, true}
+use mathlib.Core.Bool.{true}
+use mathlib.Core.Logic.{⊎-elim}
 use mathlib.Core.List.{List, [], _∷_}
 use native.Mathlib.Omega.{arith}
 use native.Mathlib.Nat.{add-mod-mod, add-mod-right, mod-eq-of-lt}
-use lib.Dec.{leb, eqb}
+use lib.Dec.{eqb}
 use lib.IntN.{ℤ, pos}
 use lib.ListN.{length, getD}
 use borrow.Author.Tests.{leb-true, eqb-true}
@@ -40,6 +41,7 @@ use Rattle.frame.specs.declared.types.FrameType.the-variants.{
   SecuredFup,
   Unknown as no-type,
 }
+use Rattle.frame.specs.declared.values.Sync.{Sync}
 use Rattle.frame.specs.declared.values.Fup.{Fup}
 use Rattle.frame.specs.declared.values.Frame.{Frame}
 use Rattle.frame.specs.declared.values.Frame.the-variants.{Sync as sync, Fup as fup}
@@ -65,8 +67,8 @@ use Rattle.admission.specs.FrameAdmission.{readFor}
 use Rattle.admission.proofs.Laws.{Tested, good-reading, by-admission, slave-admitted}
 use Rattle.domain.specs.declared.Domain.{Domain}
 use Rattle.domain.specs.declared.Pair.{Pair}
+use Rattle.domain.specs.declared.Pairing.{Pairing}
 use Rattle.domain.specs.declared.Pairing.the-variants.{Open as open-pair}
-use Rattle.domain.specs.declared.LastSync.{LastSync}
 use Rattle.domain.specs.declared.LastSync.the-variants.{Seen}
 use Rattle.domain.specs.Records.{recordAt}
 use Rattle.slave_counter.specs.Counter.{jumpOf}
@@ -78,7 +80,9 @@ use Rattle.slave_answer.specs.declared.FrameStep.{FrameStep}
 use Rattle.slave_answer.specs.Answer.{refusedOf}
 use Rattle.slave_update.specs.Update.{newBase, movedBy}
 use Rattle.slave_update.proofs.Laws.{received-bound}
-use Rattle.slave_sync.specs.Sync.{takesSync}
+use Rattle.slave_counter.specs.declared.RowCheck.{RowCheck}
+use Rattle.slave_counter.specs.declared.RowCheck.the-variants.{NotGood, Joins as joins-row, Complete}
+use Rattle.slave_sync.specs.Sync.{checkFor, syncAs}
 use Rattle.slave_fup.specs.Fup.{updateIn, fupAs}
 use Rattle.slave_frame.specs.Step.{kindOf}
 use Rattle.master_rules.specs.declared.due.Due.{Due}
@@ -96,7 +100,7 @@ use Rattle.node.specs.Frame.{addressedBy, nodeFrameOf}
 use Rattle.node_call.specs.Calls.{Call, frame, nodeAfter, nodeAfterAll}
 use Rattle.bench_settings.specs.Bench.{benchWith}
 use Rattle.node_laws.specs.Reachable.{Reachable, after}
-use Rattle.node_laws.specs.Good.{LastWithin, PairWithin, BaseBefore, SlaveGood, RoleGood, RecordGood}
+use Rattle.node_laws.specs.Good.{LastWithin, PairWithin, BaseFirst, SlaveGood, RoleGood, RecordGood}
 use Rattle.node_laws.specs.Bounds.{TimeExact}
 use Rattle.node_laws.specs.Cases.{benchCalls}
 use Rattle.node_laws.specs.Caps.{
@@ -123,6 +127,7 @@ use Rattle.node_laws.proofs.Bounds.{
   sent-within,
   next-counter-within,
 }
+use Rattle.node_laws.proofs.Slave.{pair-before}
 use Rattle.node_laws.proofs.Reachable.{reachable-good}
 use Rattle.node_laws.proofs.Laws.{stored-at}
 use Rattle.node_laws.proofs.Witness.{is-call, bench-reached, bench-held}
@@ -173,25 +178,41 @@ jump-leads last new p q =
 
 -- ---- what a good record holds, whatever its role
 
-last-as : (r : Role) (kept : VirtualLocalTime) (d : Domain) → RoleGood r kept d → LastWithin kept (d .last)
+last-as :
+    (r : Role) (kept : VirtualLocalTime) (d : Domain) → RoleGood r kept d →
+    LastWithin kept (d .settings .hysteresis) (d .last)
 last-as Absent kept d g = rw (ap (λ (x : Domain). x .last) g) tt
 last-as Slave kept d g = g .last
 last-as Master kept d g = rw (g .unknown) tt
 
-pair-as : (r : Role) (kept : VirtualLocalTime) (d : Domain) → RoleGood r kept d → PairWithin (d .last) (d .pairing)
+pair-as :
+    (r : Role) (kept : VirtualLocalTime) (d : Domain) → RoleGood r kept d →
+    PairWithin kept (d .settings .«follow_up_time») (d .settings .hysteresis) (d .last) (d .pairing)
 pair-as Absent kept d g = rw (ap (λ (x : Domain). x .pairing) g) tt
 pair-as Slave kept d g = g .pair
 pair-as Master kept d g = rw (g .waiting) tt
 
 module _ (i : ℕ) (kept : VirtualLocalTime) (d : Domain) (g : RecordGood i kept d) where
-  last-here : LastWithin kept (d .last)
+  last-here : LastWithin kept (d .settings .hysteresis) (d .last)
   last-here = last-as (d .settings .role) kept d (g .role)
 
-  pair-here : (p : Pair) → d .pairing ≡ open-pair p → PairWithin (d .last) (open-pair p)
-  pair-here p e = subst (PairWithin (d .last)) e (pair-as (d .settings .role) kept d (g .role))
+  pub pair-here :
+      (p : Pair) → d .pairing ≡ open-pair p →
+      PairWithin kept (d .settings .«follow_up_time») (d .settings .hysteresis) (d .last) (open-pair p)
+  pair-here p e =
+      subst (PairWithin kept (d .settings .«follow_up_time») (d .settings .hysteresis) (d .last)) e
+      (pair-as (d .settings .role) kept d (g .role))
 
-  seen-here : (counter : ℕ) (at : VirtualLocalTime) → d .last ≡ Seen counter at → LastWithin kept (Seen counter at)
-  seen-here counter at e = subst (LastWithin kept) e last-here
+  seen-here :
+      (counter row : ℕ) (at : VirtualLocalTime) → d .last ≡ Seen counter row at →
+      LastWithin kept (d .settings .hysteresis) (Seen counter row at)
+  seen-here counter row at e = subst (LastWithin kept (d .settings .hysteresis)) e last-here
+
+  -- the open pair is the last SYNC's, or older than F
+  paired-before : (p : Pair) → d .pairing ≡ open-pair p → p .at .0 ≤ kept .0
+  paired-before p e =
+      ⊎-elim (λ own. pair-before kept (d .settings .hysteresis) (d .last) p own last-here)
+      (λ old. omega (arith, old)) (pair-here p e .1)
 
 -- ---- spans
 
@@ -199,8 +220,8 @@ module _ (i : ℕ) (kept : VirtualLocalTime) (d : Domain) (g : RecordGood i kept
     (in-range : kept .0 ≤ 1000000000000000000) where
   pub held-before : (at : VirtualLocalTime) → HeldAt d at → at .0 ≤ kept .0
   held-before at (of-base b e) = base-before i kept d g b e
-  held-before at (of-last counter from e) = seen-here i kept d g counter from e .1
-  held-before at (of-pair p e) = seen-here i kept d g (p .counter) (p .at) (pair-here i kept d g p e .1) .1
+  held-before at (of-last counter row from e) = seen-here i kept d g counter row from e .2
+  held-before at (of-pair p e) = paired-before i kept d g p e
   held-before at (of-open counter seconds nanoseconds from e) = sent-within i kept d g _ e .5
   held-before at (of-confirmed from e) = sent-within i kept d g _ e .2
 
@@ -214,10 +235,9 @@ module _ (i : ℕ) (kept : VirtualLocalTime) (d : Domain) (g : RecordGood i kept
         (old : TimeBase) (p : Pair) (f : Fup) → d .base ≡ Set old → d .pairing ≡ open-pair p → f .ovs ≤ 3 →
         f .nanoseconds ≤ 999999999 → MovedExact old (newBase p f) (movedBy old (newBase p f))
     joined-moved old p f set there ovs ns =
-        let seen = pair-here i kept d g p there .1 in
         let at = held-before (p .at) (of-pair p there) in
-        let first : BaseBefore (d .last) (Set old) = subst (BaseBefore (d .last)) set (as-slave .order) in
-        let order : old .at .0 ≤ p .at .0 = subst (λ (l : LastSync). BaseBefore l (Set old)) seen first in
+        let first : BaseFirst (d .pairing) (Set old) = subst (BaseFirst (d .pairing)) set (as-slave .first) in
+        let order : old .at .0 ≤ p .at .0 = subst (λ (q : Pairing). BaseFirst q (Set old)) there first in
         let received = base-within i kept d g old set in
         let within : p .at .0 ≤ 1000000000000000000 = omega arith in
         let whole = pair-here i kept d g p there .0 in
@@ -259,10 +279,13 @@ module _ (i : ℕ) (kept : VirtualLocalTime) (d : Domain) (g : RecordGood i kept
     refused-step : (refusal : Refusal) → StepMoves (refusedOf d refusal)
     refused-step refusal e = let no : _≡_ {A = ℕ} 0 1 = cc in absurd (omega arith)
 
+    sync-moves : (s : Sync) (k : RowCheck) → StepMoves (syncAs k d t s)
+    sync-moves s (NotGood row) e = let no : _≡_ {A = ℕ} 0 1 = cc in absurd (omega arith)
+    sync-moves s (joins-row row) e = let no : _≡_ {A = ℕ} 0 1 = cc in absurd (omega arith)
+    sync-moves s (Complete row) e = let no : _≡_ {A = ℕ} 0 1 = cc in absurd (omega arith)
+
     kind-moves : d .settings .role ≡ Slave → (values : Frame) → Carried (Values values) → StepMoves (kindOf d t values)
-    kind-moves is (sync s) c =
-        either StepMoves (takesSync d t s) (λ e. let no : _≡_ {A = ℕ} 0 1 = cc in absurd (omega arith))
-        (refused-step _)
+    kind-moves is (sync s) c = sync-moves s (checkFor d t s)
     kind-moves is (fup f) c =
         by-joined (λ (j : Joined). StepMoves (fupAs j d f)) (d .settings .«follow_up_time») (d .pairing) t f
         (refused-step _) (refused-step _) (refused-step _) (λ p told. fup-moves is f c p told (d .base) refl)
@@ -354,8 +377,8 @@ caps-exact n r =
           omega
           (arith, not-before n t passes, held-before i (n .kept) _ (good .records i h) (good .kept) at held);
       jumps =
-          λ i h last at seen bytes s e.
-          jump-leads last (s .counter) (seen-here i (n .kept) _ (good .records i h) last at seen .0)
+          λ i h last row at seen bytes s e.
+          jump-leads last (s .counter) (seen-here i (n .kept) _ (good .records i h) last row at seen .0)
           (subst Carried e (read-carried bytes));
       joined =
           λ i h is old p set there bytes f e ns.

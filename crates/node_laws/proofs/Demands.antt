@@ -1,11 +1,13 @@
 -- Demands 1 and 2 hold: each statement by the laws that make it up. No contract cites this file.
---   demand-one   every call answers by its tests, and a refusal leaves the node and every lent byte
+--   demand-one   every call answers by its tests, and a refusal leaves the node but for what 6 and 15 change, and every
+--                lent byte
 --   demand-two   what is sent is read back, and what is accepted is written back
 -- Assumes nothing.
 use Rattle.node_queue.proofs.Laws.{queue-refusal-keeps}
 use Rattle.node_laws.specs.Demands.{DemandOne, DemandTwo}
 use Rattle.node_laws.proofs.Laws.{refusal-keeps, refusal-keeps-bytes}
 use Rattle.node_laws.proofs.Order.{order, new-order}
+use Rattle.node_laws.proofs.Excepted.{frames-only, six-keeps, fifteen-keeps}
 use Rattle.node_laws.proofs.Refused.{refused-zeros}
 use Rattle.node_laws.proofs.Queue.{queue-order}
 use Rattle.node_laws.proofs.Reachable.{sync-back, fup-back}
@@ -19,6 +21,9 @@ demand-one =
       new-number = new-order;
       zeros = refused-zeros;
       state = refusal-keeps;
+      six = six-keeps;
+      fifteen = fifteen-keeps;
+      frames = frames-only;
       bytes = λ n c e. refusal-keeps-bytes n c e .0;
       queue-number = queue-order;
       queue-keeps = queue-refusal-keeps;

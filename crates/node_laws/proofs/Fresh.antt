@@ -62,6 +62,7 @@ fresh-role Slave s number kept =
       last = tt;
       pair = tt;
       order = tt;
+      first = tt;
       blank = (refl, refl, refl, refl);
       run = tt;
       never = refl;

@@ -1,6 +1,6 @@
 -- Laws of the calls on one record. No contract cites this file.
---   refusal-keeps-frame-call     a refused frame leaves the record and the kept reading as they were
---   refusal-keeps-set-call       so does a refused set
+--   refusal-keeps-frame-call     a refused frame leaves the record and the kept reading, but under 6 and 15
+--   refusal-keeps-set-call       a refused set leaves them under every number
 --   refusal-keeps-confirm-call   and a refused confirmation, which leaves the lent bytes too
 -- Assumes nothing.
 use Prim.Native.Nat.{ℕ}
@@ -12,6 +12,7 @@ use borrow.Author.Tests.{ne-eqb}
 use Rattle.clock.specs.declared.reading.VirtualLocalTime.{VirtualLocalTime}
 use Rattle.frame.specs.declared.data_ids.DataIds.{DataIds}
 use Rattle.refusal.specs.declared.Refusal.{Refusal}
+use Rattle.refusal.specs.Numbers.{StateStays}
 use Rattle.admission.specs.Admission.{admittedOf}
 use Rattle.admission.specs.FrameAdmission.{frameAdmitted}
 use Rattle.admission.specs.declared.Admission.{Admission}
@@ -26,13 +27,6 @@ use Rattle.domain.specs.declared.Domain.{Domain}
 use Rattle.slave_frame.proofs.Laws.{refusal-keeps-frame}
 use Rattle.slave_frame.specs.Step.{frameOf}
 use Rattle.slave_answer.specs.Answer.{frameNumber}
-use Rattle.slave_answer.specs.declared.FrameAnswer.{FrameAnswer}
-use Rattle.slave_answer.specs.declared.FrameAnswer.the-variants.{
-  FirstTaken,
-  Refused as not-taken,
-  SyncTaken,
-  Updated,
-}
 use Rattle.master_confirm.proofs.Laws.{refusal-keeps-confirm}
 use Rattle.master_confirm.specs.Confirm.{confirmNumber, confirmOf}
 use Rattle.master_confirm.specs.declared.ConfirmAnswer.{ConfirmAnswer}
@@ -51,24 +45,16 @@ use Rattle.call_set.specs.declared.SetCall.{SetCall}
 -- ---- a frame
 
 abbrev KeepsFrame : Domain → VirtualLocalTime → FrameCall → Type 0
-KeepsFrame d kept r = (frameNumber (r .answer) ≡ 0 → ⊥) → (r .domain ≡ d) × (r .kept ≡ kept)
-
-refused-frame :
-    (a : FrameAnswer) → (frameNumber a ≡ 0 → ⊥) → {P : Type 0} → ((refusal : Refusal) → a ≡ not-taken refusal → P) → P
-refused-frame SyncTaken n p = absurd (n refl)
-refused-frame FirstTaken n p = absurd (n refl)
-refused-frame (Updated d) n p = absurd (n refl)
-refused-frame (not-taken refusal) n p = p refusal refl
+KeepsFrame d kept r = StateStays (frameNumber (r .answer)) → (r .domain ≡ d) × (r .kept ≡ kept)
 
 frame-keeps :
     (f : FrameAdmission) (d : Domain) (kept t : VirtualLocalTime) (bytes : List ℕ) →
     KeepsFrame d kept (frameCallAs f d kept t bytes)
 frame-keeps (frame-refused refusal) d kept t bytes = λ n. (refl, refl)
 frame-keeps (frame-admitted values) d kept t bytes =
-    λ n. (
-      refused-frame (frameOf d t bytes values .answer) n (refusal-keeps-frame d t bytes values),
-      rw (ne-eqb (frameNumber (frameOf d t bytes values .answer)) 0 n),
-    )
+    λ n.
+    let number = frameNumber (frameOf d t bytes values .answer) in
+    (refusal-keeps-frame d t bytes values n, rw (ne-eqb number 15 (n .2), ne-eqb number 0 (n .0)))
 
 pub refusal-keeps-frame-call :
     (d : Domain) (kept t : VirtualLocalTime) (bytes : List ℕ) → KeepsFrame d kept (frameCallOf d kept t bytes)

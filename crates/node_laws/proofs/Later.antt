@@ -3,6 +3,7 @@
 --   kept-stays   a kept reading that stays only grows, in its range (`Grows`)
 -- Assumes nothing.
 use Prim.Native.Nat.{ℕ, _≤_}
+use mathlib.Core.Logic.{inl, inr}
 use native.Mathlib.Omega.{arith}
 use Rattle.clock.specs.declared.reading.VirtualLocalTime.{VirtualLocalTime}
 use Rattle.clock.specs.declared.base.Held.{Held}
@@ -10,20 +11,28 @@ use Rattle.clock.specs.declared.base.Held.the-variants.{Unset, Set}
 use Rattle.settings.specs.declared.domain_settings.Role.{Role}
 use Rattle.settings.specs.declared.domain_settings.Role.the-variants.{Absent, Slave, Master}
 use Rattle.domain.specs.declared.Domain.{Domain}
+use Rattle.domain.specs.declared.Pairing.{Pairing}
+use Rattle.domain.specs.declared.Pairing.the-variants.{Waiting, Open as open-pair}
 use Rattle.domain.specs.declared.LastSync.{LastSync}
 use Rattle.domain.specs.declared.LastSync.the-variants.{Unknown, Seen}
 use Rattle.domain.specs.declared.Sending.{Sending}
 use Rattle.domain.specs.declared.Sending.the-variants.{Never, Open, Confirmed}
-use Rattle.node_laws.specs.Good.{HeldWithin, LastWithin, SentWithin, RoleGood, RecordGood}
+use Rattle.node_laws.specs.Good.{HeldWithin, LastWithin, PairWithin, SentWithin, RoleGood, RecordGood}
 
 module _ (kept kept′ : VirtualLocalTime) (le : kept .0 ≤ kept′ .0) where
   held-later : (most : ℕ) (b : Held) → HeldWithin most kept b → HeldWithin most kept′ b
   held-later most Unset h = h
   held-later most (Set b) h = (h .0, h .1, omega arith)
 
-  last-later : (last : LastSync) → LastWithin kept last → LastWithin kept′ last
-  last-later Unknown h = h
-  last-later (Seen counter at) h = (h .0, omega arith)
+  last-later : (h : ℕ) (last : LastSync) → LastWithin kept h last → LastWithin kept′ h last
+  last-later h Unknown w = w
+  last-later h (Seen counter row at) w = (w .0, w .1, omega arith)
+
+  pair-later :
+      (f h : ℕ) (last : LastSync) (p : Pairing) → PairWithin kept f h last p → PairWithin kept′ f h last p
+  pair-later f h last Waiting w = tt
+  pair-later f h last (open-pair p) (whole, inl own) = (whole, inl own)
+  pair-later f h last (open-pair p) (whole, inr old) = (whole, inr (omega (arith, old)))
 
   sent-later : (b : Held) (next : ℕ) (s : Sending) → SentWithin kept b next s → SentWithin kept′ b next s
   sent-later b next Never h = h
@@ -35,9 +44,10 @@ module _ (kept kept′ : VirtualLocalTime) (le : kept .0 ≤ kept′ .0) where
   role-later Slave d g =
       record {
         base = held-later _ (d .base) (g .base);
-        last = last-later (d .last) (g .last);
-        pair = g .pair;
+        last = last-later _ (d .last) (g .last);
+        pair = pair-later _ _ (d .last) (d .pairing) (g .pair);
         order = g .order;
+        first = g .first;
         blank = g .blank;
         run = g .run;
         never = g .never;

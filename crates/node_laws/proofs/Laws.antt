@@ -1,13 +1,13 @@
 -- Laws of a node's calls, over the definitions that the promises cite. No contract cites this file.
---   refusal-keeps         a refused call leaves the node as it was
---   refusal-keeps-bytes   and the lent bytes; it counts no frame
+--   refusal-keeps         a refused call leaves the node as it was, but under 6 and 15
+--   refusal-keeps-bytes   and the lent bytes under every number; it counts no frame
 --   read-keeps            a read changes nothing
 --   other-domains         a call for another domain leaves a record as it was, and so does a main cycle if the
 --                         record is not a master's
 --   own-domain            a domain's answers depend on its record and the kept reading alone
 --   own-after             and so do its record and the kept reading after the call
 -- Assumes nothing.
-use Prim.Native.Nat.{ℕ, zero, suc, _+_, _%_, _<_}
+use Prim.Native.Nat.{ℕ, zero, suc, _%_, _<_}
 use mathlib.Core.Path.{_≡_, refl, sym, ap, _∙_}
 use mathlib.Core.Bool.{Bool, true, false, false≢true}
 use mathlib.Core.List.{List}
@@ -16,6 +16,7 @@ use lib.ListN.{length, set as put}
 use lib.Seq.{getD-set-same, getD-set-other, set-getD}
 use borrow.Author.Tests.{eqb-true, eqb-false}
 use Rattle.settings.specs.Node.{places}
+use Rattle.refusal.specs.Numbers.{StateStays}
 use Rattle.round.specs.Turn.{nextPlace}
 use Rattle.promise.proofs.Tests.{either}
 use Rattle.clock.specs.declared.reading.VirtualLocalTime.{VirtualLocalTime}
@@ -43,6 +44,7 @@ use Rattle.node_call.specs.Calls.{
   confirm,
   nodeAfter,
   answerTo,
+  numberIn,
   lentTo,
   lentAfter,
   countIn,
@@ -53,7 +55,7 @@ use Rattle.node_laws.proofs.Keeps.{refusal-keeps-frame-call, refusal-ke
 
 -- ---- a refused call
 
-stored-same :
+pub stored-same :
     (n : Node) (at : ℕ) {d : Domain} {kept : VirtualLocalTime} →
     (d ≡ recordAt (n .domains) at) × (kept ≡ n .kept) → storedIn n at d kept ≡ n
 stored-same n at e =
@@ -75,17 +77,18 @@ cycle-keeps n t out =
     (either (CycleKeeps n t out) (isRoomFor n (length out)) (λ e. absurd (e refl)) (λ e. (refl, refl, refl)))
     (λ e. (refl, refl, refl))
 
-pub refusal-keeps : (n : Node) (c : Call) → IsRefused n c → nodeAfter n c ≡ n
+pub refusal-keeps : (n : Node) (c : Call) → StateStays (numberIn (answerTo n c)) → nodeAfter n c ≡ n
 refusal-keeps n (frame t bytes) e =
     stored-same n (addressedBy bytes)
     (refusal-keeps-frame-call (recordAt (n .domains) (addressedBy bytes)) (n .kept) t bytes e)
 refusal-keeps n (read domain t) e = refl
 refusal-keeps n (set domain t s ns) e =
     stored-same n (domain % places)
-    (refusal-keeps-set-call (recordAt (n .domains) (domain % places)) (n .kept) domain t s ns e)
-refusal-keeps n (cycle t out) e = cycle-keeps n t out e .0
+    (refusal-keeps-set-call (recordAt (n .domains) (domain % places)) (n .kept) domain t s ns (e .0))
+refusal-keeps n (cycle t out) e = cycle-keeps n t out (e .0) .0
 refusal-keeps n (confirm domain t counter out) e =
-    let k = refusal-keeps-confirm-call (recordAt (n .domains) (domain % places)) (n .kept) domain t counter out e in
+    let d = recordAt (n .domains) (domain % places) in
+    let k = refusal-keeps-confirm-call d (n .kept) domain t counter out (e .0) in
     stored-same n (domain % places) (k .0, k .1)
 
 -- ---- the lent bytes, and the frames counted

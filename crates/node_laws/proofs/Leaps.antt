@@ -17,6 +17,7 @@ use Rattle.clock.specs.declared.reading.VirtualLocalTime.{VirtualLocalTime}
 use Rattle.clock.specs.declared.base.TimeBase.{TimeBase}
 use Rattle.clock.specs.declared.base.Held.{Held}
 use Rattle.clock.specs.declared.base.Held.the-variants.{Unset, Set}
+use Rattle.frame.specs.declared.values.Sync.{Sync}
 use Rattle.frame.specs.declared.values.Fup.{Fup}
 use Rattle.frame.specs.declared.values.Frame.{Frame}
 use Rattle.frame.specs.declared.values.Frame.the-variants.{Sync as sync, Fup as fup}
@@ -37,7 +38,9 @@ use Rattle.slave_update.specs.Row.{leapOf, withRun}
 use Rattle.slave_update.specs.Update.{newBase}
 use Rattle.slave_update.proofs.Leaps.{leap-stays, leap-clears}
 use Rattle.slave_status.specs.Status.{leapBits}
-use Rattle.slave_sync.specs.Sync.{takesSync}
+use Rattle.slave_counter.specs.declared.RowCheck.{RowCheck}
+use Rattle.slave_counter.specs.declared.RowCheck.the-variants.{NotGood, Joins, Complete}
+use Rattle.slave_sync.specs.Sync.{checkFor, syncAs}
 use Rattle.slave_fup.specs.Fup.{updateIn, fupAs}
 use Rattle.slave_frame.specs.Step.{kindOf}
 use Rattle.call_frame.specs.FrameCall.{frameCallAs, frameCallOf}
@@ -82,8 +85,13 @@ module _ (d : Domain) (kept t : VirtualLocalTime) (set : BaseSet (d .base)) wher
   fup-moves (not-joined refusal) f = refl
   fup-moves (With p) f = update-moves (d .base) (newBase p f) set
 
+  sync-moves : (c : RowCheck) (s : Sync) → Moved (syncAs c d t s)
+  sync-moves (NotGood row) s = refl
+  sync-moves (Joins row) s = refl
+  sync-moves (Complete row) s = refl
+
   kind-moves : (values : Frame) → Moved (kindOf d t values)
-  kind-moves (sync s) = either Moved (takesSync d t s) refl refl
+  kind-moves (sync s) = sync-moves (checkFor d t s) s
   kind-moves (fup f) = fup-moves (joinedOf (d .settings .«follow_up_time») (d .pairing) t f) f
 
   call-moves :

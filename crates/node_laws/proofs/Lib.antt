@@ -9,6 +9,7 @@ pub mod Reachable
 pub mod Keeps
 pub mod Laws
 pub mod Order
+pub mod Excepted
 pub mod Above
 pub mod Refused
 pub mod Independent
@@ -22,6 +23,8 @@ pub mod ReadBack
 pub mod Accepted
 pub mod Cases
 pub mod Witness
+pub mod ExceptedMet
 pub mod Queue
 pub mod Demands
 pub mod Caps
+pub mod InRow

@@ -8,11 +8,11 @@
 --   new-order        `new`
 --   order            any call
 -- Assumes nothing.
-use Prim.Native.Nat.{ℕ, _%_}
+use Prim.Native.Nat.{ℕ, _+_, _%_}
 use mathlib.Core.Path.{_≡_, refl}
 use mathlib.Core.Bool.{Bool, true, false, not, cond}
 use mathlib.Core.List.{List}
-use lib.Dec.{leb, eqb}
+use lib.Dec.{leb, ltb, eqb}
 use lib.ListN.{length, getD}
 use Rattle.clock.specs.declared.reading.VirtualLocalTime.{VirtualLocalTime}
 use Rattle.clock.specs.declared.base.Held.{Held}
@@ -21,6 +21,7 @@ use Rattle.clock.specs.Time.{isNanoseconds}
 use Rattle.frame.specs.declared.types.FrameType.{FrameType}
 use Rattle.frame.specs.declared.types.FrameType.the-variants.{PlainSync, SecuredSync, PlainFup, SecuredFup, Unknown}
 use Rattle.frame.specs.declared.values.Protection.the-variants.{Plain, Secured}
+use Rattle.frame.specs.declared.values.Sync.{Sync}
 use Rattle.frame.specs.declared.values.Fup.{Fup}
 use Rattle.frame.specs.declared.values.Frame.{Frame}
 use Rattle.frame.specs.declared.values.Frame.the-variants.{Sync as sync, Fup as fup}
@@ -47,8 +48,11 @@ use Rattle.domain.specs.declared.Sending.the-variants.{Never, Open, Confirmed}
 use Rattle.domain.specs.Records.{recordAt}
 use Rattle.slave_answer.specs.declared.FrameStep.{FrameStep}
 use Rattle.slave_answer.specs.Answer.{frameNumber}
+use Rattle.slave_counter.specs.declared.CounterVerdict.{CounterVerdict}
+use Rattle.slave_counter.specs.declared.CounterVerdict.the-variants.{Free, Good, NotGood}
+use Rattle.slave_counter.specs.Row.{rowOf, checkedOf}
 use Rattle.slave_pair.specs.Join.{isOld, isOther, isAbove}
-use Rattle.slave_sync.specs.Sync.{takesSync}
+use Rattle.slave_sync.specs.Sync.{verdictFor, syncAs}
 use Rattle.slave_update.specs.Update.{newBase}
 use Rattle.slave_fup.specs.Fup.{updateIn, takenBy}
 use Rattle.slave_frame.specs.Step.{kindOf}
@@ -63,6 +67,8 @@ use Rattle.node_laws.specs.Tests.{
   firstOf,
   noType,
   notFor,
+  notGood,
+  notComplete,
   kindTests,
   frameTests,
   readTests,
@@ -110,8 +116,18 @@ module _ (d : Domain) (kept t : VirtualLocalTime) (bytes : List ℕ) where
       (λ same. told (isAbove f) (λ above. simp (e, young, same, above))
       (λ below. simp (e, young, same, below) (taken-zero (d .base) p f))))
 
-  kind-order : (values : Frame) → stepNumber (kindOf d t values) ≡ firstOf (kindTests (Values values) d t)
-  kind-order (sync s) = met stepNumber (takesSync d t s) refl refl
+  check-order :
+      (s : Sync) (v : CounterVerdict) →
+      let h = d .settings .hysteresis in
+      let row = rowOf (d .last) in
+      stepNumber (syncAs (checkedOf h row v) d t s) ≡ cond (notGood v) 6 (cond (notComplete h row v) 15 0)
+  check-order s Free = told (ltb 0 (d .settings .hysteresis)) (λ more. simp more) (λ none. simp none)
+  check-order s Good =
+      told (ltb (rowOf (d .last) + 1) (d .settings .hysteresis)) (λ more. simp more) (λ none. simp none)
+  check-order s NotGood = refl
+
+  pub kind-order : (values : Frame) → stepNumber (kindOf d t values) ≡ firstOf (kindTests (Values values) d t)
+  kind-order (sync s) = check-order s (verdictFor d t s)
   kind-order (fup f) = fup-order f (d .pairing) refl
 
   abbrev admissionNumber : FrameAdmission → ℕ

@@ -32,14 +32,17 @@ use Rattle.admission.specs.declared.frames.FrameAdmission.the-variants.{Admitte
 use Rattle.admission.specs.FrameAdmission.{frameAdmitted}
 use Rattle.domain.specs.declared.Domain.{Domain}
 use Rattle.domain.specs.declared.Pair.{Pair}
+use Rattle.domain.specs.declared.LastSync.{LastSync}
 use Rattle.domain.specs.declared.Leap.{Leap}
 use Rattle.domain.specs.declared.Sending.the-variants.{Confirmed}
-use Rattle.domain.specs.Fields.{withSending}
+use Rattle.domain.specs.Fields.{withLast, withSending}
 use Rattle.slave_pair.specs.declared.joining.Joined.{Joined}
 use Rattle.slave_pair.specs.declared.joining.Joined.the-variants.{With, Refused as not-joined}
 use Rattle.slave_pair.specs.Join.{joinedOf}
 use Rattle.slave_answer.specs.declared.FrameStep.{FrameStep}
-use Rattle.slave_sync.specs.Sync.{withPair, takesSync}
+use Rattle.slave_counter.specs.declared.RowCheck.{RowCheck}
+use Rattle.slave_counter.specs.declared.RowCheck.the-variants.{NotGood, Joins, Complete}
+use Rattle.slave_sync.specs.Sync.{checkFor, withPair, syncAs}
 use Rattle.slave_fup.specs.Fup.{updatedOf, fupAs}
 use Rattle.slave_frame.specs.Step.{kindOf}
 use Rattle.master_rules.specs.declared.due.Due.{Due}
@@ -67,7 +70,7 @@ use Rattle.node_laws.specs.Good.{BaseStays}
 use Rattle.node_laws.specs.Apart.{SettingsStay}
 
 -- ---- A relation between a record before and after: what stays as it was keeps it, and so does each step: of a master
--- a set, a SYNC sent, a confirmation; of a slave a SYNC accepted, a FUP taken.
+-- a set, a SYNC sent, a confirmation; of a slave a SYNC accepted, one that is refused by 6 or 15, a FUP taken.
 pub record KeptByMaster (R : (before after : Domain) → Type 0) : Type 0 where
   pub same : (d : Domain) → R d d
   pub onward : (a b c : Domain) → R a b → R b c → R a c
@@ -78,7 +81,8 @@ pub record KeptByMaster (R : (before after : Domain) → Type 0) : Type 0 where
 
 pub record Kept (R : (before after : Domain) → Type 0) : Type 0 where
   pub master : KeptByMaster R
-  pub paired : (d : Domain) (t : VirtualLocalTime) (s : Sync) → R d (withPair d t s)
+  pub paired : (d : Domain) (t : VirtualLocalTime) (s : Sync) (row : ℕ) → R d (withPair d t s row)
+  pub heard : (d : Domain) (last : LastSync) → R d (withLast d last)
   pub updated : (d : Domain) (p : Pair) (f : Fup) (leap : Leap) → R d (updatedOf d p f leap)
 
 module _ (R : (before after : Domain) → Type 0) (k : KeptByMaster R) where
@@ -172,8 +176,13 @@ module _ (R : (before after : Domain) → Type 0) (k : Kept R) where
     fup-keeps (not-joined refusal) f = still
     fup-keeps (With p) f = k .updated d p f _
 
+    sync-keeps : (c : RowCheck) (s : Sync) → R d (syncAs c d t s .domain)
+    sync-keeps (NotGood row) s = k .heard d _
+    sync-keeps (Joins row) s = k .heard d _
+    sync-keeps (Complete row) s = k .paired d t s row
+
     kind-keeps : (values : Frame) → R d (kindOf d t values .domain)
-    kind-keeps (sync s) = either (λ (r : FrameStep). R d (r .domain)) (takesSync d t s) (k .paired d t s) still
+    kind-keeps (sync s) = sync-keeps (checkFor d t s) s
     kind-keeps (fup f) = fup-keeps (joinedOf (d .settings .«follow_up_time») (d .pairing) t f) f
 
     frame-keeps : (a : FrameAdmission) (bytes : List ℕ) → R d (frameCallAs a d kept t bytes .domain)
@@ -205,7 +214,8 @@ base-kept =
             sent = λ d seconds nanoseconds t h. h;
             confirmed = λ d at h. h;
           };
-      paired = λ d t s h. h;
+      paired = λ d t s row h. h;
+      heard = λ d last h. h;
       updated = λ d p f leap h. tt;
     }
 
@@ -231,7 +241,8 @@ settings-kept =
             sent = λ d seconds nanoseconds t. refl;
             confirmed = λ d at. refl;
           };
-      paired = λ d t s. refl;
+      paired = λ d t s row. refl;
+      heard = λ d last. refl;
       updated = λ d p f leap. refl;
     }
 

@@ -48,7 +48,7 @@ use Rattle.node_laws.specs.Bounds.{TimeExact}
 -- accepted last (6), of the open pair (7), of the SYNC sent last (11 where it is open; due).
 pub data HeldAt (d : Domain) : VirtualLocalTime → Type 0 where
   of-base : (b : TimeBase) → d .base ≡ Set b → HeldAt d (b .at)
-  of-last : (counter : ℕ) (at : VirtualLocalTime) → d .last ≡ Seen counter at → HeldAt d at
+  of-last : (counter row : ℕ) (at : VirtualLocalTime) → d .last ≡ Seen counter row at → HeldAt d at
   of-pair : (p : Pair) → d .pairing ≡ open-pair p → HeldAt d (p .at)
   of-open :
       (counter seconds nanoseconds : ℕ) (at : VirtualLocalTime) → d .sending ≡ Open counter seconds nanoseconds at →
@@ -103,8 +103,9 @@ pub record CapsExact (n : Node) : Type 0 where
       (i : ℕ) → i < places → (t at : VirtualLocalTime) → Passes n t → HeldAt (recordAt (n .domains) i) at →
       SpanExact at t
   pub jumps :
-      (i : ℕ) → i < places → (last : ℕ) (at : VirtualLocalTime) → recordAt (n .domains) i .last ≡ Seen last at →
-      (bytes : List ℕ) (s : Sync) → readOf bytes ≡ Values (sync s) → JumpExact last (s .counter)
+      (i : ℕ) → i < places → (last row : ℕ) (at : VirtualLocalTime) →
+      recordAt (n .domains) i .last ≡ Seen last row at → (bytes : List ℕ) (s : Sync) →
+      readOf bytes ≡ Values (sync s) → JumpExact last (s .counter)
   pub joined :
       (i : ℕ) → i < places → recordAt (n .domains) i .settings .role ≡ Slave → (old : TimeBase) (p : Pair) →
       recordAt (n .domains) i .base ≡ Set old → recordAt (n .domains) i .pairing ≡ open-pair p →

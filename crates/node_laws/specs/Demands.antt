@@ -10,28 +10,39 @@ use Rattle.frame_read.specs.declared.Read.the-variants.{Values}
 use Rattle.frame_read.specs.Read.{readOf}
 use Rattle.settings.specs.declared.node_settings.NodeSettings.{NodeSettings}
 use Rattle.settings.specs.Node.{verdictNumber}
+use Rattle.refusal.specs.Numbers.{StateStays}
 use Rattle.master_confirm.specs.declared.ConfirmAnswer.the-variants.{Followed}
 use Rattle.round.specs.FirstDue.{Each}
 use Rattle.node.specs.declared.Node.{Node}
 use Rattle.node.specs.New.{newOf}
 use Rattle.node.specs.Cycle.{goneFrom}
 use Rattle.node.specs.Confirm.{nodeConfirmOf, confirmedBytes}
-use Rattle.node_call.specs.Calls.{Call, cycle, nodeAfter, sends, answerTo, numberIn, lentTo, lentAfter}
+use Rattle.node_call.specs.Calls.{Call, frame, cycle, nodeAfter, sends, answerTo, numberIn, lentTo, lentAfter}
 use Rattle.node_queue.specs.declared.NodeQueue.{NodeQueue}
 use Rattle.node_queue.specs.Queue.{queueNumber, QueuedIn}
 use Rattle.node_laws.specs.Reachable.{Reachable}
 use Rattle.node_laws.specs.Due.{dueCount}
 use Rattle.node_laws.specs.Tests.{firstOf, testsOf, queueTests, newTests}
 use Rattle.node_laws.specs.Refused.{IsRefused, refusedBy}
+use Rattle.node_laws.specs.Excepted.{afterSix, JoinedRow, IsExcepted, IsFrame}
 use Rattle.node_laws.specs.Back.{joined, SyncBack, AcceptedBack}
 
 -- ---- Demand 1, on every node and every argument: "The call tests in the order of the numbers, as far as each
--- concerns it. A refused call returns the number and zeros; state and lent bytes stay."
+-- concerns it." "A refused call returns the number and zeros; state and lent bytes stay." Paper 02, request 5, of 15:
+-- "such a SYNC becomes the last one, joins the row and its reading is kept. This and the row set to 0 under 6 are the
+-- exceptions to 'state stays' and demand 1."
 pub record DemandOne : Type 0 where
   pub number : (n : Node) (c : Call) → numberIn (answerTo n c) ≡ firstOf (testsOf n c)
   pub new-number : (s : NodeSettings) → verdictNumber (newOf s .verdict) ≡ firstOf (newTests s)
   pub zeros : (n : Node) (c : Call) → IsRefused n c → answerTo n c ≡ refusedBy (numberIn (answerTo n c)) c
-  pub state : (n : Node) (c : Call) → IsRefused n c → nodeAfter n c ≡ n
+  pub state : (n : Node) (c : Call) → StateStays (numberIn (answerTo n c)) → nodeAfter n c ≡ n
+  pub six :
+      (n : Node) (t : VirtualLocalTime) (bytes : List ℕ) → numberIn (answerTo n (frame t bytes)) ≡ 6 →
+      nodeAfter n (frame t bytes) ≡ afterSix n bytes
+  pub fifteen :
+      (n : Node) (t : VirtualLocalTime) (bytes : List ℕ) → numberIn (answerTo n (frame t bytes)) ≡ 15 →
+      JoinedRow n t bytes (nodeAfter n (frame t bytes))
+  pub frames : (n : Node) (c : Call) → IsExcepted n c → IsFrame c
   pub bytes : (n : Node) (c : Call) → IsRefused n c → lentAfter (answerTo n c) ≡ lentTo c
   pub queue-number :
       (n : Node) (ts fs before : List ℕ) (r : NodeQueue) (after : List ℕ) → QueuedIn n ts fs before r after →

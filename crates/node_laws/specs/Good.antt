@@ -3,10 +3,12 @@
 use Prim.Native.Nat.{ℕ, _+_, _%_, _^_, _≤_, _<_}
 use mathlib.Core.Path.{_≡_}
 use mathlib.Core.Bool.{true, false}
+use mathlib.Core.Logic.{_⊎_}
 use lib.ListN.{length}
 use Rattle.clock.specs.declared.reading.VirtualLocalTime.{VirtualLocalTime}
 use Rattle.clock.specs.declared.base.Held.{Held}
 use Rattle.clock.specs.declared.base.Held.the-variants.{Unset, Set}
+use Rattle.clock.specs.Reading.{spanOf}
 use Rattle.clock.specs.Time.{mostNanoseconds, mostSet, mostReceived}
 use Rattle.frame.specs.ByteTwo.{counters}
 use Rattle.settings.specs.declared.domain_settings.Role.{Role}
@@ -15,6 +17,7 @@ use Rattle.settings.specs.Ranges.{isGood}
 use Rattle.settings.specs.Domain.{heldOf, absentHeld}
 use Rattle.settings.specs.Node.{places}
 use Rattle.domain.specs.declared.Domain.{Domain}
+use Rattle.domain.specs.declared.Pair.{Pair}
 use Rattle.domain.specs.declared.Pairing.{Pairing}
 use Rattle.domain.specs.declared.Pairing.the-variants.{Waiting, Open}
 use Rattle.domain.specs.declared.LastSync.{LastSync}
@@ -33,20 +36,31 @@ abbrev pub HeldWithin : (most : ℕ) (kept : VirtualLocalTime) → Held → Type
 HeldWithin most kept Unset = Unit {0}
 HeldWithin most kept (Set b) = (b .time .0 ≤ most) × (b .time .1 ≤ mostNanoseconds) × (b .at .0 ≤ kept .0)
 
--- ---- the SYNC last accepted, and the open pair, which is that SYNC's
-abbrev pub LastWithin : (kept : VirtualLocalTime) → LastSync → Type 0
-LastWithin kept Unknown = Unit {0}
-LastWithin kept (Seen counter at) = (counter < counters) × (at .0 ≤ kept .0)
+-- ---- the SYNC last accepted, with a row of at most H
+abbrev pub LastWithin : (kept : VirtualLocalTime) (h : ℕ) → LastSync → Type 0
+LastWithin kept h Unknown = Unit {0}
+LastWithin kept h (Seen counter row at) = (counter < counters) × (row ≤ h) × (at .0 ≤ kept .0)
 
-abbrev pub PairWithin : LastSync → Pairing → Type 0
-PairWithin last Waiting = Unit {0}
-PairWithin last (Open p) = (p .seconds < 2 ^ 32) × (last ≡ Seen (p .counter) (p .at))
+-- ---- the open pair: that SYNC's, whose row is complete; or one that 15 left open, older than F by now
+abbrev pub OfLast : (h : ℕ) → LastSync → Pair → Type 0
+OfLast h Unknown p = ⊥
+OfLast h (Seen counter row at) p = (counter ≡ p .counter) × (at ≡ p .at) × (h ≤ row)
+
+abbrev pub PairWithin : (kept : VirtualLocalTime) (f h : ℕ) → LastSync → Pairing → Type 0
+PairWithin kept f h last Waiting = Unit {0}
+PairWithin kept f h last (Open p) = (p .seconds < 2 ^ 32) × (OfLast h last p ⊎ (f < spanOf (p .at) kept))
 
 -- ---- a slave's base is of a SYNC that was accepted, the last one or one before
 abbrev pub BaseBefore : LastSync → Held → Type 0
 BaseBefore last Unset = Unit {0}
 BaseBefore Unknown (Set b) = ⊥
-BaseBefore (Seen counter at) (Set b) = b .at .0 ≤ at .0
+BaseBefore (Seen counter row at) (Set b) = b .at .0 ≤ at .0
+
+-- ---- and of one before that of the open pair
+abbrev pub BaseFirst : Pairing → Held → Type 0
+BaseFirst Waiting base = Unit {0}
+BaseFirst (Open p) Unset = Unit {0}
+BaseFirst (Open p) (Set b) = b .at .0 ≤ p .at .0
 
 -- ---- an unset base shows nothing
 abbrev pub Blank : Held → Domain → Type 0
@@ -78,9 +92,10 @@ SentWithin kept base next (Confirmed at) = BaseSet base × (next < counters) × 
 -- ---- a record in each role; what the other role adds is fresh
 pub record SlaveGood (kept : VirtualLocalTime) (d : Domain) : Type 0 where
   pub base : HeldWithin mostReceived kept (d .base)
-  pub last : LastWithin kept (d .last)
-  pub pair : PairWithin (d .last) (d .pairing)
+  pub last : LastWithin kept (d .settings .hysteresis) (d .last)
+  pub pair : PairWithin kept (d .settings .«follow_up_time») (d .settings .hysteresis) (d .last) (d .pairing)
   pub order : BaseBefore (d .last) (d .base)
+  pub first : BaseFirst (d .pairing) (d .base)
   pub blank : Blank (d .base) d
   pub run : RunBelow (d .settings .«clear_count») (d .leap)
   pub never : d .sending ≡ Never

@@ -7,6 +7,8 @@ pub mod Cases
 pub mod Due
 pub mod Tests
 pub mod Refused
+pub mod Excepted
+pub mod InRow
 pub mod Apart
 pub mod Back
 pub mod Demands

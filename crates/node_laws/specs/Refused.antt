@@ -1,5 +1,5 @@
--- Paper 01, "Refusal numbers": "A refused call returns the number and zeros; state and lent bytes stay." Assumes
--- nothing.
+-- Paper 01, "Refusal numbers": "A refused call returns the number and zeros; state and lent bytes stay." What 6 and 15
+-- change of the state is in `Excepted`. Assumes nothing.
 use Prim.Native.Nat.{ℕ}
 use mathlib.Core.Path.{_≡_}
 use Rattle.call_read.specs.declared.Shown.{Shown}

@@ -1,9 +1,10 @@
 -- Paper 01, "Refusal numbers": "0 is success. The call tests in the order of the numbers, as far as each concerns
--- it." For each call its tests in that order, each with the number that it gives. Assumes nothing.
-use Prim.Native.Nat.{ℕ, _*_, _%_}
+-- it." For each call its tests in that order, each with the number that it gives; paper 02, request 5, has 15 "after
+-- 6". Assumes nothing.
+use Prim.Native.Nat.{ℕ, _+_, _*_, _%_}
 use mathlib.Core.Bool.{Bool, true, false, not, cond, _&&_}
 use mathlib.Core.List.{List, [], _∷_}
-use lib.Dec.{leb, eqb}
+use lib.Dec.{leb, ltb, eqb}
 use lib.ListN.{length, getD}
 use Rattle.clock.specs.declared.reading.VirtualLocalTime.{VirtualLocalTime}
 use Rattle.clock.specs.declared.base.Held.{Held}
@@ -37,8 +38,11 @@ use Rattle.domain.specs.declared.Pairing.the-variants.{Waiting, Open as open-pa
 use Rattle.domain.specs.declared.Sending.{Sending}
 use Rattle.domain.specs.declared.Sending.the-variants.{Never, Open, Confirmed}
 use Rattle.domain.specs.Records.{recordAt}
+use Rattle.slave_counter.specs.declared.CounterVerdict.{CounterVerdict}
+use Rattle.slave_counter.specs.declared.CounterVerdict.the-variants.{Free, Good, NotGood}
+use Rattle.slave_counter.specs.Row.{rowOf}
 use Rattle.slave_pair.specs.Join.{isOld, isOther, isAbove}
-use Rattle.slave_sync.specs.Sync.{takesSync}
+use Rattle.slave_sync.specs.Sync.{verdictFor}
 use Rattle.master_follow.specs.Follow.{isOpenFor}
 use Rattle.node.specs.declared.Node.{Node}
 use Rattle.node.specs.Frame.{addressedBy}
@@ -69,6 +73,20 @@ noType Unknown = true
 abbrev pub notFor : Domain → (asked : ℕ) → Needed → Bool
 notFor d asked needed = not (isFor (d .number) (d .settings .role) asked needed)
 
+-- ---- 6 "SYNC's counter not good"
+abbrev pub notGood : CounterVerdict → Bool
+notGood Free = false
+notGood Good = false
+notGood NotGood = true
+
+-- ---- 15 "SYNC good in counter but row not complete": "after the counter was unknown or forgotten, H further SYNC
+-- frames in a row with a good counter must come before any pair may be taken, the last of them opening one"; this one
+-- is not that last one
+abbrev pub notComplete : (h row : ℕ) → CounterVerdict → Bool
+notComplete h row Free = ltb 0 h
+notComplete h row Good = ltb (row + 1) h
+notComplete h row NotGood = false
+
 -- ---- 7 "FUP with no open pair": "A pair older than F counts as not open"
 abbrev pub noOpenPair : (f : ℕ) → Pairing → VirtualLocalTime → Bool
 noOpenPair f Waiting t = true
@@ -90,9 +108,12 @@ noOpenSync c Never t counter = true
 noOpenSync c (Open sent seconds nanoseconds at) t counter = not (isOpenFor c sent at t counter)
 noOpenSync c (Confirmed at) t counter = true
 
--- ---- A frame: 1, 2, 3, 4, 5; then a SYNC 6, a FUP 7, 8, 9.
+-- ---- A frame: 1, 2, 3, 4, 5; then a SYNC 6, 15, a FUP 7, 8, 9.
 abbrev pub kindTests : Read → Domain → VirtualLocalTime → Tests
-kindTests (Values (sync s)) d t = (6, not (takesSync d t s)) ∷ []
+kindTests (Values (sync s)) d t =
+    (6, notGood (verdictFor d t s))
+    ∷ (15, notComplete (d .settings .hysteresis) (rowOf (d .last)) (verdictFor d t s))
+    ∷ []
 kindTests (Values (fup f)) d t =
     (7, noOpenPair (d .settings .«follow_up_time») (d .pairing) t)
     ∷ (8, notThePairs (d .pairing) f)

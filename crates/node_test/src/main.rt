@@ -90,6 +90,7 @@ fn master() -> DomainSettings {
         role: Role::Master,
         mode: CheckMode::Optional,
         jump_width: 0,
+        hysteresis: 0,
         clear_count: 0,
         security: Security::Secured,
         user: UserBytes(0xB0, 0xB1, 0xB2),

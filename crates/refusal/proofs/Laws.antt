@@ -18,6 +18,7 @@ use Rattle.refusal.specs.declared.Refusal.the-variants.{
   NoOpenSync,
   NoRoom,
   Settings,
+  RowIncomplete,
 }
 use Rattle.refusal.specs.Numbers.{numberOf}
 
@@ -35,3 +36,4 @@ thirteen-unused NeverSet e = omega arith
 thirteen-unused NoOpenSync e = omega arith
 thirteen-unused NoRoom e = omega arith
 thirteen-unused Settings e = omega arith
+thirteen-unused RowIncomplete e = omega arith

@@ -1,5 +1,6 @@
--- Paper 01, "Refusal numbers". Assumes nothing.
+-- Paper 01, "Refusal numbers", and paper 02, requests 8 and 5. Assumes nothing.
 use Prim.Native.Nat.{ℕ}
+use mathlib.Core.Path.{_≡_}
 use Rattle.refusal.specs.declared.Refusal.{Refusal}
 use Rattle.refusal.specs.declared.Refusal.the-variants.{
   Reading,
@@ -15,6 +16,7 @@ use Rattle.refusal.specs.declared.Refusal.the-variants.{
   NoOpenSync,
   NoRoom,
   Settings,
+  RowIncomplete,
 }
 
 abbrev pub numberOf : Refusal → ℕ
@@ -31,3 +33,9 @@ numberOf NeverSet = 10
 numberOf NoOpenSync = 11
 numberOf NoRoom = 12
 numberOf Settings = 14
+numberOf RowIncomplete = 15
+
+-- ---- "A refused call returns the number and zeros; state and lent bytes stay." The exceptions to 'state stays' are 6
+-- and 15.
+abbrev pub StateStays : (number : ℕ) → Type 0
+StateStays number = (number ≡ 0 → ⊥) × (number ≡ 6 → ⊥) × (number ≡ 15 → ⊥)

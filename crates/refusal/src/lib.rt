@@ -1,5 +1,5 @@
-// The refusal numbers (paper 01, "Refusal numbers"): a named case for each, and its number. Calls
-// answer a case; the number is what a customer sees. 0 is success, and no case here.
+// The refusal numbers (paper 01, "Refusal numbers", and paper 02): a named case for each, and its number.
+// Calls answer a case; the number is what a customer sees. 0 is success, and no case here.
 ghost use mathlib.Core.Path.{_≡_};
 ghost use Rattle.refusal.specs.Numbers.{numberOf};
 
@@ -30,6 +30,8 @@ pub enum Refusal {
     NoRoom,
     // 14: settings out of range
     Settings,
+    // 15: SYNC good in counter but row not complete
+    RowIncomplete,
 }
 
 impl Refusal {
@@ -51,6 +53,7 @@ impl Refusal {
             Refusal::NoOpenSync => 11,
             Refusal::NoRoom => 12,
             Refusal::Settings => 14,
+            Refusal::RowIncomplete => 15,
         }
     }
 }

@@ -26,14 +26,15 @@ absentHeld =
       role = Absent;
       mode = Validated;
       «jump_width» = 0;
+      hysteresis = 0;
       «clear_count» = 0;
       security = Plain;
       user = record { 0 = 0; 1 = 0; 2 = 0 };
     }
 
 -- ---- a slave's settings, and a master's: what the other role has read is 0
-abbrev pub asSlave : (j f l future past count : ℕ) → CheckMode → DataIds → DomainSettings
-asSlave j f l future past count mode ids =
+abbrev pub asSlave : (j h f l future past count : ℕ) → CheckMode → DataIds → DomainSettings
+asSlave j h f l future past count mode ids =
     record {
       «follow_up_time» = f;
       «loss_time» = l;
@@ -45,6 +46,7 @@ asSlave j f l future past count mode ids =
       role = Slave;
       mode = mode;
       «jump_width» = j;
+      hysteresis = h;
       «clear_count» = count;
       security = Plain;
       user = record { 0 = 0; 1 = 0; 2 = 0 };
@@ -63,6 +65,7 @@ asMaster p c security user ids =
       role = Master;
       mode = Validated;
       «jump_width» = 0;
+      hysteresis = 0;
       «clear_count» = 0;
       security = security;
       user = user;
@@ -70,8 +73,8 @@ asMaster p c security user ids =
 
 abbrev pub slaveHeld : DomainSettings → DomainSettings
 slaveHeld s =
-    asSlave (s .«jump_width») (s .«follow_up_time») (s .«loss_time») (s .«future_threshold») (s .«past_threshold»)
-    (s .«clear_count») (s .mode) (s .ids)
+    asSlave (s .«jump_width») (s .hysteresis) (s .«follow_up_time») (s .«loss_time») (s .«future_threshold»)
+    (s .«past_threshold») (s .«clear_count») (s .mode) (s .ids)
 
 abbrev pub masterHeld : DomainSettings → DomainSettings
 masterHeld s = asMaster (s .period) (s .«confirmation_time») (s .security) (s .user) (s .ids)

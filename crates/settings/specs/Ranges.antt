@@ -1,4 +1,4 @@
--- Paper 01, "Settings of a node", and paper 02, request 3: the ranges of one domain's settings. Assumes nothing.
+-- Paper 01, "Settings of a node", and paper 02, requests 3 and 5: the ranges of one domain's settings. Assumes nothing.
 use Prim.Native.Nat.{ℕ}
 use mathlib.Core.Bool.{Bool, true, _&&_}
 use lib.Dec.{leb, ltb}
@@ -19,6 +19,7 @@ leapsGood s =
 abbrev pub slaveGood : DomainSettings → Bool
 slaveGood s =
     within 1 15 (s .«jump_width»)
+    && leb (s .hysteresis) 15
     && within 1 10000000000 (s .«follow_up_time»)
     && ltb (s .«follow_up_time») (s .«loss_time»)
     && leb (s .«loss_time») 1000000000000

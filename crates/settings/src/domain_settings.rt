@@ -37,9 +37,11 @@ pub struct DomainSettings {
     // Each domain's DataIDs.
     pub ids: DataIds,
     pub role: Role,
-    // A slave's: check mode, counter jump width J, and the updates in a row that clear a leap bit.
+    // A slave's: check mode, counter jump width J, hysteresis H (the SYNCs in a row that must follow the first), and
+    // the updates in a row that clear a leap bit.
     pub mode: CheckMode,
     pub jump_width: u8,
+    pub hysteresis: u8,
     pub clear_count: u8,
     // A master's: plain or secured, and the user bytes it sends.
     pub security: Security,
@@ -50,6 +52,9 @@ impl DomainSettings {
     pub const JUMP_WIDTH_MIN: u8 = 1;
 
     pub const JUMP_WIDTH_MAX: u8 = 15;
+
+    // Its least is 0.
+    pub const HYSTERESIS_MAX: u8 = 15;
 
     pub const FOLLOW_UP_TIME_MIN: u64 = 1;
 
@@ -100,6 +105,7 @@ impl DomainSettings {
             role: Role::Absent,
             mode: CheckMode::Validated,
             jump_width: 0,
+            hysteresis: 0,
             clear_count: 0,
             security: Security::Plain,
             user: UserBytes(0, 0, 0),
@@ -122,6 +128,7 @@ impl DomainSettings {
             role: Role::Slave,
             mode,
             jump_width: self.jump_width,
+            hysteresis: self.hysteresis,
             clear_count: self.clear_count,
             security: Security::Plain,
             user: UserBytes(0, 0, 0),
@@ -145,6 +152,7 @@ impl DomainSettings {
             role: Role::Master,
             mode: CheckMode::Validated,
             jump_width: 0,
+            hysteresis: 0,
             clear_count: 0,
             security,
             user,

@@ -26,6 +26,9 @@ fn slave_good(settings: DomainSettings) -> bool
     if DomainSettings::JUMP_WIDTH_MAX < settings.jump_width {
         return false;
     }
+    if DomainSettings::HYSTERESIS_MAX < settings.hysteresis {
+        return false;
+    }
     if settings.follow_up_time < DomainSettings::FOLLOW_UP_TIME_MIN {
         return false;
     }

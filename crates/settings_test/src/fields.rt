@@ -16,6 +16,8 @@ pub fn numbers(s: DomainSettings) {
     named(role);
     word(b" J");
     small(s.jump_width);
+    word(b" H");
+    small(s.hysteresis);
     word(b" F");
     number(s.follow_up_time);
     word(b" L");

@@ -36,6 +36,7 @@ fn given(role: Role, mode: CheckMode, security: Security) -> DomainSettings {
         role,
         mode,
         jump_width: 7,
+        hysteresis: 9,
         clear_count: 8,
         security,
         user: UserBytes(0x21, 0x22, 0x23),

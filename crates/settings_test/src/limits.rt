@@ -10,6 +10,7 @@ pub fn limits() {
     line::number(NodeSettings::SYNCS_PER_CYCLE_MAX as u64);
     line::number(DomainSettings::JUMP_WIDTH_MIN as u64);
     line::number(DomainSettings::JUMP_WIDTH_MAX as u64);
+    line::number(DomainSettings::HYSTERESIS_MAX as u64);
     line::number(DomainSettings::FOLLOW_UP_TIME_MIN);
     line::number(DomainSettings::FOLLOW_UP_TIME_MAX);
     line::number(DomainSettings::LOSS_TIME_MAX);

@@ -2,7 +2,7 @@
 use Prim.Native.Nat.{ℕ}
 use mathlib.Core.Path.{_≡_}
 use Rattle.refusal.specs.declared.Refusal.{Refusal}
-use Rattle.refusal.specs.Numbers.{numberOf}
+use Rattle.refusal.specs.Numbers.{numberOf, StateStays}
 use Rattle.domain.specs.declared.Domain.{Domain}
 use Rattle.slave_answer.specs.declared.FrameAnswer.{FrameAnswer}
 use Rattle.slave_answer.specs.declared.FrameAnswer.the-variants.{SyncTaken, FirstTaken, Updated, Refused}
@@ -19,6 +19,6 @@ frameNumber (Refused refusal) = numberOf refusal
 abbrev pub refusedOf : Domain → Refusal → FrameStep
 refusedOf d refusal = record { answer = Refused refusal; domain = d }
 
--- ---- a refusal keeps the record
+-- ---- a refusal keeps the record, but for the exceptions
 abbrev pub Keeps : Domain → FrameStep → Type 0
-Keeps d r = (refusal : Refusal) → r .answer ≡ Refused refusal → r .domain ≡ d
+Keeps d r = StateStays (frameNumber (r .answer)) → r .domain ≡ d

@@ -13,7 +13,7 @@ pub enum FrameAnswer {
     Refused(Refusal),
 }
 
-// The answer to a frame, and the record after it: as it was where the answer is a refusal.
+// The answer to a frame, and the record after it: as it was where the answer is a refusal, but for 6 and 15.
 pub struct FrameStep {
     pub answer: FrameAnswer,
     pub domain: Domain,

@@ -1,6 +1,6 @@
 -- Paper 01, "A slave's domain": the counter of a SYNC. Assumes nothing.
 use Prim.Native.Nat.{ℕ, _+_, _-_, _%_}
-use mathlib.Core.Bool.{Bool, true, false, cond, _&&_}
+use mathlib.Core.Bool.{cond, _&&_}
 use lib.Dec.{leb, ltb}
 use Rattle.clock.specs.declared.reading.VirtualLocalTime.{VirtualLocalTime}
 use Rattle.clock.specs.Reading.{spanOf}
@@ -18,11 +18,6 @@ jumpOf last new = (new % counters + counters - last % counters) % counters
 -- good. Otherwise (new minus last) modulo 16 must be 1 to J."
 abbrev pub verdictOf : (j l : ℕ) → LastSync → ℕ → VirtualLocalTime → CounterVerdict
 verdictOf j l Unknown new t = Free
-verdictOf j l (Seen last at) new t =
+verdictOf j l (Seen last row at) new t =
     cond (ltb l (spanOf at t)) Free
     (cond (leb 1 (jumpOf last new) && leb (jumpOf last new) j) Good NotGood)
-
-abbrev pub isGoodCounter : CounterVerdict → Bool
-isGoodCounter Free = true
-isGoodCounter Good = true
-isGoodCounter NotGood = false

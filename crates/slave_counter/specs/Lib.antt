@@ -1,2 +1,3 @@
--- The definitions of `slave_counter`.
+-- The definitions of `slave_counter`, in the order to read them.
 pub mod Counter
+pub mod Row

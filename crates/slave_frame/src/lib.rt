@@ -11,7 +11,7 @@ use slave_sync::take_sync;
 ghost use mathlib.Core.Path.{_≡_};
 ghost use Rattle.slave_frame.specs.Step.{frameOf};
 
-// A frame of the domain, by its bytes and the values read from them. 5, then 6, or 7, 8 and 9.
+// A frame of the domain, by its bytes and the values read from them. 5, then 6 and 15, or 7, 8 and 9.
 pub fn take_frame(domain: Domain, t: VirtualLocalTime, bytes: &[u8], values: Frame) -> FrameStep
     ensures { λ r. ⌜ r ≡ frameOf domain t (now (bytes .entry)) values ⌝ }
 {

@@ -5,8 +5,6 @@
 use mathlib.Core.Path.{_≡_, refl}
 use native.Mathlib.Omega.{arith}
 use Rattle.clock.specs.declared.reading.VirtualLocalTime.{VirtualLocalTime}
-use Rattle.clock.specs.declared.base.Held.{Held}
-use Rattle.clock.specs.declared.base.Held.the-variants.{Unset, Set}
 use Rattle.frame.specs.declared.values.Fup.{Fup}
 use Rattle.domain.specs.declared.Domain.{Domain}
 use Rattle.domain.specs.declared.Pairing.the-variants.{Waiting}
@@ -16,22 +14,20 @@ use Rattle.slave_answer.specs.Answer.{frameNumber}
 use Rattle.slave_pair.specs.Join.{joinedOf}
 use Rattle.slave_pair.proofs.Laws.{by-joined}
 use Rattle.slave_update.specs.Update.{newBase}
-use Rattle.slave_fup.specs.Fup.{updateIn, takenBy, fupAs, fupOf}
-use Rattle.slave_answer.specs.Answer.{Keeps}
+use Rattle.slave_update.proofs.Laws.{update-taken}
+use Rattle.slave_answer.specs.declared.FrameStep.{FrameStep}
+use Rattle.slave_fup.specs.Fup.{fupAs, fupOf}
 
 -- ---- a refusal keeps the record
 
-as-keeps : (j : Joined) (d : Domain) (f : Fup) → Keeps d (fupAs j d f)
-as-keeps (Refused refusal) d f = λ r e. refl
-as-keeps (With p) d f = update-keeps (d .base)
-  where
-    update-keeps :
-        (b : Held) →
-        Keeps d (takenBy (updateIn d b (newBase p f)) d p f)
-    update-keeps Unset = λ r e. cc
-    update-keeps (Set old) = λ r e. cc
+abbrev RefusalKeeps : Domain → FrameStep → Type 0
+RefusalKeeps d r = (frameNumber (r .answer) ≡ 0 → ⊥) → r .domain ≡ d
 
-pub refusal-keeps-fup : (d : Domain) (t : VirtualLocalTime) (f : Fup) → Keeps d (fupOf d t f)
+as-keeps : (j : Joined) (d : Domain) (f : Fup) → RefusalKeeps d (fupAs j d f)
+as-keeps (Refused refusal) d f = λ e. refl
+as-keeps (With p) d f = λ e. absurd (e (update-taken _ _ _ _ (d .base) (newBase p f)))
+
+pub refusal-keeps-fup : (d : Domain) (t : VirtualLocalTime) (f : Fup) → RefusalKeeps d (fupOf d t f)
 refusal-keeps-fup d t f = as-keeps (joinedOf (d .settings .«follow_up_time») (d .pairing) t f) d f
 
 -- ---- what a FUP does

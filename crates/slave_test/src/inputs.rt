@@ -9,6 +9,7 @@ use settings::UserBytes;
 // A slave's settings. No byte of the DataIDs stands twice, so a wrong list or place shows.
 pub fn slave(
     jump_width: u8,
+    hysteresis: u8,
     follow_up_time: u64,
     loss_time: u64,
     future_threshold: u64,
@@ -27,6 +28,7 @@ pub fn slave(
         role: Role::Slave,
         mode: CheckMode::Ignored,
         jump_width,
+        hysteresis,
         clear_count: 1,
         security: Security::Plain,
         user: UserBytes(0, 0, 0),

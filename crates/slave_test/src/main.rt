@@ -9,6 +9,7 @@ mod steps;
 fn main() {
     cases::updates();
     cases::earlier();
+    cases::rows();
     cases::far_leaps();
     cases::first_clears();
     cases::timeout();

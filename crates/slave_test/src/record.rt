@@ -60,10 +60,12 @@ fn paired(pairing: Pairing) {
 fn seen(last: LastSync) {
     match last {
         LastSync::Unknown => line::word(b"; last unknown"),
-        LastSync::Seen { counter, at } => {
+        LastSync::Seen { counter, row, at } => {
             line::word(b"; last");
             line::small(counter);
             line::reading(at.0);
+            line::word(b" row");
+            line::small(row);
         }
     }
 }

@@ -17,10 +17,12 @@ use test_line as line;
 
 // ---- a fresh record, of domain 1
 
-pub fn fresh(j: u8, f: u64, l: u64, future: u64, past: u64) -> Domain {
-    let d = Domain::new(1, inputs::slave(j, f, l, future, past));
+pub fn fresh(j: u8, h: u8, f: u64, l: u64, future: u64, past: u64) -> Domain {
+    let d = Domain::new(1, inputs::slave(j, h, f, l, future, past));
     line::word(b"fresh J");
     line::small(j);
+    line::word(b" H");
+    line::small(h);
     line::word(b" F");
     line::number(f);
     line::word(b" L");

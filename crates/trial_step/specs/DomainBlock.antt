@@ -44,11 +44,11 @@ abbrev pub noSettings : DomainSettings
 noSettings = slaveHeld absentHeld
 
 -- ---- A domain block, from `at` on: role, check mode, J, secured, user bytes 0 to 2, the count's code; then F,
--- L, future, past, P, C; then the DataIDs. A role's settings alone are read.
+-- L, future, past, P, C; then the DataIDs; then H. A role's settings alone are read.
 abbrev pub slaveAs : Mode → List ℕ → (at : ℕ) → DomainSettings
 slaveAs (mode.Is m) item at =
-    asSlave (getD item (at + 2) 0) (longAt item (at + 8)) (longAt item (at + 16)) (longAt item (at + 24))
-    (longAt item (at + 32)) (clearCount (getD item (at + 7) 0)) m (idsAt item (at + 56))
+    asSlave (getD item (at + 2) 0) (getD item (at + 88) 0) (longAt item (at + 8)) (longAt item (at + 16))
+    (longAt item (at + 24)) (longAt item (at + 32)) (clearCount (getD item (at + 7) 0)) m (idsAt item (at + 56))
 slaveAs mode.Unknown item at = noSettings
 
 abbrev pub masterAs : Sends → List ℕ → (at : ℕ) → DomainSettings

@@ -64,6 +64,7 @@ fn slave(item: &[u8], at: u16, mode: Mode) -> DomainSettings
             role: Role::Slave,
             mode,
             jump_width: byte_at(item, at as usize + 2),
+            hysteresis: byte_at(item, at as usize + 88),
             clear_count: clear_count(byte_at(item, at as usize + 7)),
             security: Security::Plain,
             user: UserBytes(0, 0, 0),
@@ -88,6 +89,7 @@ fn master(item: &[u8], at: u16, sends: Sends) -> DomainSettings
             role: Role::Master,
             mode: CheckMode::Validated,
             jump_width: 0,
+            hysteresis: 0,
             clear_count: 0,
             security,
             user: UserBytes(
@@ -146,6 +148,7 @@ fn no_settings() -> DomainSettings
         role: Role::Slave,
         mode: CheckMode::Validated,
         jump_width: 0,
+        hysteresis: 0,
         clear_count: 0,
         security: Security::Plain,
         user: UserBytes(0, 0, 0),

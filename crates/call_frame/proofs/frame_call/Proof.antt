@@ -34,8 +34,8 @@ take-frame-requires c κs = search needs
 number-requires : tie.Need-number-requires
 number-requires c κs = search needs
 
-kept-after-requires : tie.Need-kept-after-requires
-kept-after-requires c κs = search needs
+frame-kept-requires : tie.Need-frame-kept-requires
+frame-kept-requires c κs = search needs
 
 returns : tie.Need-returns
 returns c = sym (as-found (c .before .before .before) _ (c .before .refusal .given .1))
@@ -43,7 +43,7 @@ returns c = sym (as-found (c .before .before .before) _ (c .before .refusal .giv
 returns-2 : tie.Need-returns-2
 returns-2 c =
     let at = c .before .before .before in
-    rw (c .kept-after .ensures, c .before .number .ensures, at .take-frame .ensures)
+    rw (c .frame-kept .ensures, c .before .number .ensures, at .take-frame .ensures)
     (sym (as-found (at .before .before .before .before) _ (at .before .before .values .given .1)))
 
 pub frame-call-spec : {M : Type 1} → statement M
@@ -55,6 +55,6 @@ frame-call-spec =
     enum-known-values
     take-frame-requires
     number-requires
-    kept-after-requires
+    frame-kept-requires
     returns
     returns-2)

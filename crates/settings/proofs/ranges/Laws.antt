@@ -32,6 +32,7 @@ pub record LeapsRange (s : DomainSettings) : Type 0 where
 
 pub record SlaveRange (s : DomainSettings) : Type 0 where
   pub jump : (1 ≤ s .«jump_width») × (s .«jump_width» ≤ 15)
+  pub hysteresis : s .hysteresis ≤ 15
   pub follow : (1 ≤ s .«follow_up_time») × (s .«follow_up_time» ≤ 10000000000)
   pub loss : (s .«follow_up_time» < s .«loss_time») × (s .«loss_time» ≤ 1000000000000)
   pub leaps : LeapsRange s
@@ -54,17 +55,19 @@ leaps-range s e =
 
 pub slave-range : (s : DomainSettings) → slaveGood s ≡ true → SlaveRange s
 slave-range s e =
-    let p₅ = both _ _ e in
+    let p₆ = both _ _ e in
+    let p₅ = both _ _ (p₆ .0) in
     let p₄ = both _ _ (p₅ .0) in
     let p₃ = both _ _ (p₄ .0) in
     let p₂ = both _ _ (p₃ .0) in
     let j = both _ _ (p₂ .0) in
-    let f = both _ _ (p₂ .1) in
+    let f = both _ _ (p₃ .1) in
     record {
       jump = (leb-true _ _ (j .0), leb-true _ _ (j .1));
+      hysteresis = leb-true _ _ (p₂ .1);
       follow = (leb-true _ _ (f .0), leb-true _ _ (f .1));
-      loss = (ltb-true _ _ (p₃ .1), leb-true _ _ (p₄ .1));
-      leaps = leaps-range s (p₅ .1);
+      loss = (ltb-true _ _ (p₄ .1), leb-true _ _ (p₅ .1));
+      leaps = leaps-range s (p₆ .1);
     }
 
 pub master-range : (s : DomainSettings) → masterGood s ≡ true → MasterRange s

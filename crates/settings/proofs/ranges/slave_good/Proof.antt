@@ -20,6 +20,7 @@ refused s never = refuted (slaveGood s) (λ e. never (slave-range s e))
 -- all but the leaps
 record InRange (s : DomainSettings) : Type 0 where
   jump : (1 ≤ s .«jump_width») × (s .«jump_width» ≤ 15)
+  hysteresis : s .hysteresis ≤ 15
   follow : (1 ≤ s .«follow_up_time») × (s .«follow_up_time» ≤ 10000000000)
   loss : (s .«follow_up_time» < s .«loss_time») × (s .«loss_time» ≤ 1000000000000)
 
@@ -28,6 +29,7 @@ last s r =
     rw (
       le-leb _ _ (r .jump .0),
       le-leb _ _ (r .jump .1),
+      le-leb _ _ (r .hysteresis),
       le-leb _ _ (r .follow .0),
       le-leb _ _ (r .follow .1),
       lt-ltb _ _ (r .loss .0),
@@ -53,6 +55,9 @@ fifth c = fourth (c .before .before)
 abbrev sixth : tie.Else6 → DomainSettings
 sixth c = fifth (c .before .before)
 
+abbrev seventh : tie.Else7 → DomainSettings
+seventh c = sixth (c .before .before)
+
 returns : tie.Need-returns
 returns c = refused (c .before .before .args .settings) (λ r. omega (arith, c .if1 .taken))
 
@@ -71,13 +76,16 @@ returns-5 c = refused (fourth (c .before .before)) (λ r. omega (arith, c .if5 .
 returns-6 : tie.Need-returns-6
 returns-6 c = refused (fifth (c .before .before)) (λ r. omega (arith, c .if6 .taken))
 
+returns-7 : tie.Need-returns-7
+returns-7 c = refused (sixth (c .before .before)) (λ r. omega (arith, c .if7 .taken))
+
 leaps-good-requires : tie.Need-leaps-good-requires
 leaps-good-requires c κs = search needs
 
-returns-7 : tie.Need-returns-7
-returns-7 c = c .leaps-good .ensures ∙ last (sixth (c .before)) (omega arith)
+returns-8 : tie.Need-returns-8
+returns-8 c = c .leaps-good .ensures ∙ last (seventh (c .before)) (omega arith)
 
 pub slave-good-spec : {M : Type 1} → statement M
 slave-good-spec =
     tie.close
-    (tie.spec returns returns-2 returns-3 returns-4 returns-5 returns-6 leaps-good-requires returns-7)
+    (tie.spec returns returns-2 returns-3 returns-4 returns-5 returns-6 returns-7 leaps-good-requires returns-8)

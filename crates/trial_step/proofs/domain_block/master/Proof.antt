@@ -54,7 +54,7 @@ byte-at-requires-3 : tie.Need-byte-at-requires-3
 byte-at-requires-3 c κs = search needs
 
 returns : tie.Need-returns
-returns c = search needs
+returns c = rw (c .before .enum-told .given .1) (c .no-settings .ensures)
 
 returns-2 : tie.Need-returns-2
 returns-2 c =

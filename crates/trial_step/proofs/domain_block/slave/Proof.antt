@@ -55,15 +55,22 @@ add-byte-at-2 c = search needs
 byte-at-requires-2 : tie.Need-byte-at-requires-2
 byte-at-requires-2 c κs = search needs
 
+add-byte-at-3 : tie.Need-add-byte-at-3
+add-byte-at-3 c = search needs
+
+byte-at-requires-3 : tie.Need-byte-at-requires-3
+byte-at-requires-3 c κs = search needs
+
 clear-count-requires : tie.Need-clear-count-requires
 clear-count-requires c κs = search needs
 
 returns : tie.Need-returns
-returns c = search needs
+returns c = rw (c .before .enum-told .given .1) (c .no-settings .ensures)
 
 returns-2 : tie.Need-returns-2
 returns-2 c =
-    let byte = c .before .before in
+    let byte2 = c .before .before in
+    let byte = byte2 .before in
     let long4 = byte .before .before in
     let long2 = long4 .before .before in
     let known = long2 .before .before in
@@ -74,8 +81,9 @@ returns-2 c =
       long4 .long-at4 .ensures,
       byte .before .ids-at .ensures,
       byte .byte-at .ensures,
+      byte2 .byte-at2 .ensures,
       c .clear-count .ensures,
-      c .before .byte-at2 .ensures,
+      c .before .byte-at3 .ensures,
       known .before .mode .given .1,
     )
 
@@ -100,6 +108,8 @@ slave-spec =
     byte-at-requires
     add-byte-at-2
     byte-at-requires-2
+    add-byte-at-3
+    byte-at-requires-3
     clear-count-requires
     returns
     returns-2)
