@@ -7,6 +7,7 @@
 --   six-complete-met    counters 5, 6, 7, 11: the row was complete, and nothing changes under 6
 --   fifteen-open-met    counters 5, 6, 7, and 2 more than L later: 15, the row begins anew, and the pair of 7 stays
 --   taken-met           counters 5, 6, 7, and the FUP of 7: it is taken
+--   taken-later-met     counters 5, 6, 7 exactly L after, 11, which is refused, and the FUP of 7: it is taken
 -- Assumes nothing.
 use Prim.Native.Nat.{ℕ, _+_}
 use mathlib.Core.Path.{_≡_, refl}
@@ -29,6 +30,7 @@ use Rattle.node.specs.New.{newOf}
 use Rattle.node.specs.Store.{storedIn}
 use Rattle.node_call.specs.Calls.{Call, frame, nodeAfter, nodeAfterAll, answerTo, numberIn}
 use Rattle.node_laws.specs.Reachable.{AreCalls, Reachable, new}
+use Rattle.node_laws.specs.InRow.{Heard, accepted, refused, heardIn}
 use Rattle.node_laws.proofs.Witness.{reaches}
 
 abbrev rowSlave : DomainSettings
@@ -86,6 +88,21 @@ six-complete-met = (refl, refl)
 pub fifteen-open-met : Leaves three (syncAt 1031 2) 15 (standing pairOfSeven (Seen 2 0 (reading 1031)) 1031)
 fifteen-open-met = (refl, refl)
 
+-- ---- a FUP that is taken, with what was heard before it
+
+abbrev fupAt : (t counter : ℕ) → Call
+fupAt t counter = frame (reading t) (0x18 ∷ 0 ∷ (0x10 + counter) ∷ 0 ∷ 0 ∷ 0 ∷ 0 ∷ 7 ∷ [])
+
+abbrev TakenAfter : (before : List Call) → Call → List Heard → Type 0
+TakenAfter before c heard =
+    (numberIn (answerTo (after before) c) ≡ 0) × (heardIn 1 (newOf rowSettings .node) before [] ≡ heard)
+
 pub taken-met :
-    numberIn (answerTo (after three) (frame (reading 40) (0x18 ∷ 0 ∷ 0x17 ∷ 0 ∷ 0 ∷ 0 ∷ 0 ∷ 7 ∷ []))) ≡ 0
-taken-met = refl
+    TakenAfter three (fupAt 40 7)
+    (accepted 7 (reading 30) ∷ accepted 6 (reading 20) ∷ accepted 5 (reading 10) ∷ [])
+taken-met = (refl, refl)
+
+pub taken-later-met :
+    TakenAfter (syncAt 10 5 ∷ syncAt 20 6 ∷ syncAt 1020 7 ∷ syncAt 1030 11 ∷ []) (fupAt 1040 7)
+    (refused ∷ accepted 7 (reading 1020) ∷ accepted 6 (reading 20) ∷ accepted 5 (reading 10) ∷ [])
+taken-later-met = (refl, refl)

@@ -27,4 +27,5 @@ pub mod ExceptedMet
 pub mod Queue
 pub mod Demands
 pub mod Caps
+pub mod Heard
 pub mod InRow
