@@ -84,9 +84,9 @@ module _ (d : Domain) (t : VirtualLocalTime) (s : Sync) where
   at-zero e v k not-joined =
       ap (λ (last : LastSync). refusedOf (withLast d last) SyncCounter) (last-stays h (d .last) (omega arith))
   at-zero e v k (begins lt) = absurd (omega arith)
-  at-zero e v k (alone le) = rw e refl
+  at-zero e v k (alone le) = ap (λ (r : ℕ). syncAs (Complete r) d t s) e
   at-zero e v k (joins lt) = absurd (omega arith)
-  at-zero e v k (completes le) = rw e refl
+  at-zero e v k (completes le) = ap (λ (r : ℕ). syncAs (Complete r) d t s) e
 
   pub row-zero : h ≡ 0 → syncOf d t s ≡ firstRule (verdictFor d t s) d t s
   row-zero e = at-zero e (verdictFor d t s) (checkFor d t s) found
