@@ -3,9 +3,9 @@ use Prim.Native.Nat.{ℕ}
 use mathlib.Core.Bool.{cond}
 use mathlib.Core.List.{List}
 use lib.Dec.{eqb}
-use lib.ListN.{getD}
+use lib.ListN.{getD, replicate}
 use Rattle.clock.specs.declared.reading.VirtualLocalTime.{VirtualLocalTime}
-use Rattle.text.specs.Fields.{wordAt, longAt}
+use Rattle.text.specs.Fields.{wordAt, longAt, bytesAt}
 use Rattle.node_call.specs.declared.Request.the-variants.{Frame, Read, Set, Cycle, Confirm}
 use Rattle.bench_record.specs.declared.Asked.{Asked}
 use Rattle.bench_record.specs.declared.Asked.the-variants.{Call, Bad}
@@ -28,3 +28,11 @@ requestOf bytes = requestBy (getD bytes 2 0) (getD bytes 3 0) (record { 0 = long
 -- ---- "the mark C7 3A"
 abbrev pub askedBy : List ℕ → Asked
 askedBy bytes = cond (eqb (getD bytes 0 0) 0xC7) (cond (eqb (getD bytes 1 0) 0x3A) (requestOf bytes) Bad) Bad
+
+-- ---- "a payload (8 bytes)"
+abbrev pub payloadOf : List ℕ → List ℕ
+payloadOf bytes = bytesAt 8 bytes 12
+
+-- ---- What the bench lends: 8 bytes, S being 1.
+abbrev pub lent : List ℕ
+lent = replicate 8 0

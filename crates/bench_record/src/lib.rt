@@ -9,7 +9,7 @@ use text::fields::byte_at;
 use text::fields::long_at;
 use text::fields::word_at;
 ghost use mathlib.Core.Path.{_≡_};
-ghost use Rattle.bench_record.specs.Record.{askedBy, requestOf};
+ghost use Rattle.bench_record.specs.Record.{askedBy, requestOf, payloadOf};
 
 // What a record asks for.
 pub enum Asked {
@@ -44,4 +44,20 @@ fn request(bytes: &[u8]) -> Asked
         5 => Asked::Call(Request::Confirm(domain, t, byte_at(bytes, 12))),
         _ => Asked::Bad,
     }
+}
+
+// The payload; of a shorter record the bytes that it lacks count as 0.
+pub fn payload(bytes: &[u8]) -> [u8; 8]
+    ensures { λ r. ⌜ r ≡ payloadOf (now (bytes .entry)) ⌝ }
+{
+    [
+        byte_at(bytes, 12),
+        byte_at(bytes, 13),
+        byte_at(bytes, 14),
+        byte_at(bytes, 15),
+        byte_at(bytes, 16),
+        byte_at(bytes, 17),
+        byte_at(bytes, 18),
+        byte_at(bytes, 19),
+    ]
 }

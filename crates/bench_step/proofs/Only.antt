@@ -6,10 +6,10 @@ use mathlib.Core.List.{List}
 use Rattle.promise.specs.Only.{OnlyOne}
 use Rattle.node.specs.declared.Node.{Node}
 use Rattle.bench_record.specs.declared.step.Step.{Step}
-use Rattle.bench_record.specs.Record.{askedBy}
+use Rattle.bench_record.specs.Record.{askedBy, payloadOf, lent}
 use Rattle.bench_record.proofs.step.Only.{record-stepped-only}
 use Rattle.bench_step.specs.BenchLine.{benchLine}
-use Rattle.bench_step.specs.Step.{payloadOf, lent, BenchStepped}
+use Rattle.bench_step.specs.Step.{BenchStepped}
 
 pub bench-step-only :
     (n : Node) (item : ℕ) (bytes : List ℕ) (at : ℕ) (before : List ℕ) →

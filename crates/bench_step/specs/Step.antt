@@ -1,21 +1,11 @@
 -- Paper 01, "Bench program": a record of the bench, its call and its line. Assumes nothing.
 use Prim.Native.Nat.{ℕ}
 use mathlib.Core.List.{List}
-use lib.ListN.{replicate}
-use Rattle.text.specs.Fields.{bytesAt}
 use Rattle.node.specs.declared.Node.{Node}
 use Rattle.bench_record.specs.declared.step.Step.{Step}
-use Rattle.bench_record.specs.Record.{askedBy}
+use Rattle.bench_record.specs.Record.{askedBy, payloadOf, lent}
 use Rattle.bench_record.specs.Step.{RecordStepped}
 use Rattle.bench_step.specs.BenchLine.{benchLine}
-
--- ---- "a payload (8 bytes)"
-abbrev pub payloadOf : List ℕ → List ℕ
-payloadOf bytes = bytesAt 8 bytes 12
-
--- ---- What the bench lends: 8 bytes, S being 1.
-abbrev pub lent : List ℕ
-lent = replicate 8 0
 
 -- ---- The payload is the call's frame.
 abbrev pub BenchStepped : Node → (item : ℕ) (bytes : List ℕ) (at : ℕ) (before : List ℕ) → Step → List ℕ → Type 0

@@ -4,16 +4,16 @@ pub mod line;
 use crate::line::put_bench_line;
 use bench_record::Asked;
 use bench_record::asked_by;
+use bench_record::payload;
 use bench_record::step::Step;
 use bench_record::step::bad_record;
 use node::Node;
 use node_call::Request;
 use node_call::call;
-use text::fields::byte_at;
-ghost use mathlib.Core.Path.{_≡_};
 ghost use Rattle.bench_record.specs.Step.{Answered};
 ghost use Rattle.bench_step.specs.BenchLine.{benchLine};
-ghost use Rattle.bench_step.specs.Step.{payloadOf, lent, BenchStepped};
+ghost use Rattle.bench_record.specs.Record.{lent};
+ghost use Rattle.bench_step.specs.Step.{BenchStepped};
 
 // The record's line, and the node after its call. A bad record ends the run.
 pub fn bench_step(node: Node, item: u64, bytes: &[u8], out: &mut [u8], at: usize) -> Step
@@ -47,19 +47,4 @@ fn answer(
         at: end,
         goes_on: true,
     }
-}
-
-fn payload(bytes: &[u8]) -> [u8; 8]
-    ensures { λ r. ⌜ r ≡ payloadOf (now (bytes .entry)) ⌝ }
-{
-    [
-        byte_at(bytes, 12),
-        byte_at(bytes, 13),
-        byte_at(bytes, 14),
-        byte_at(bytes, 15),
-        byte_at(bytes, 16),
-        byte_at(bytes, 17),
-        byte_at(bytes, 18),
-        byte_at(bytes, 19),
-    ]
 }

@@ -2,9 +2,9 @@
 use mathlib.Core.Path.{sym, _∙_}
 use denote.Ref.{now}
 use borrow.Author.Needs.{needs}
+use Rattle.bench_record.specs.Record.{payloadOf, lent}
 use Rattle.bench_record.proofs.step.Laws.{bad-stepped, call-stepped}
 use Rattle.bench_step.specs.BenchLine.{benchLine}
-use Rattle.bench_step.specs.Step.{payloadOf, lent}
 use Rattle.bench_step.proofs.bench_step.Statement.{statement}
 use Rattle.bench_step.proofs.bench_step.Tie as tie
 

@@ -1,7 +1,7 @@
--- `bench_step::payload` meets its contract: a byte from each callee. Assumes nothing.
+-- `bench_record::payload` meets its contract: a byte from each callee. Assumes nothing.
 use borrow.Author.Needs.{needs}
-use Rattle.bench_step.proofs.payload.Statement.{statement}
-use Rattle.bench_step.proofs.payload.Tie as tie
+use Rattle.bench_record.proofs.payload.Statement.{statement}
+use Rattle.bench_record.proofs.payload.Tie as tie
 
 byte-at-requires : tie.Need-byte-at-requires
 byte-at-requires c κs = search needs

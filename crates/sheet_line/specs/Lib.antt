@@ -1,0 +1,3 @@
+-- The definitions of `sheet_line`, in the order to read them.
+pub mod Signed
+pub mod Line

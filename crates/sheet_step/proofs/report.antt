@@ -1,0 +1,2 @@
+-- The laws of `sheet_step::report`.
+pub mod Only

@@ -1,0 +1,3 @@
+-- The definitions of `sheet_step`, in the order to read them.
+pub mod Account
+pub mod Report

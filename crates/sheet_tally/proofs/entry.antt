@@ -1,0 +1,2 @@
+-- The laws of `sheet_tally::entry`.
+pub mod Only

@@ -1,0 +1,3 @@
+-- The laws of `sheet_tally::sheet`.
+pub mod Sixteen
+pub mod Only

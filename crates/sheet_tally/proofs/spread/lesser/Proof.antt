@@ -1,0 +1,24 @@
+-- `sheet_tally::spread::lesser` meets its contract: the test is the definition's. Assumes nothing.
+use mir.Syntax.{w64}
+use mir.ValLaws.{toZ-ofZ}
+use Rattle.sheet_tally.proofs.spread.lesser.Statement.{statement}
+use Rattle.sheet_tally.proofs.spread.lesser.Tie as tie
+
+returns : tie.Need-returns
+returns c =
+    let a = c .before .args in
+    let f = c .before .fits in
+    let one = toZ-ofZ w64 (a .a) (f .a) in
+    let two = toZ-ofZ w64 (a .b) (f .b) in
+    rw (one, rw (one, two) at (c .if1 .taken))
+
+returns-2 : tie.Need-returns-2
+returns-2 c =
+    let a = c .before .args in
+    let f = c .before .fits in
+    let one = toZ-ofZ w64 (a .a) (f .a) in
+    let two = toZ-ofZ w64 (a .b) (f .b) in
+    rw (two, rw (one, two) at (c .if1 .left))
+
+pub lesser-spec : {M : Type 1} → statement M
+lesser-spec = tie.close (tie.spec returns returns-2)
