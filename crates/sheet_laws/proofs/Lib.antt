@@ -6,3 +6,5 @@ pub mod Frames
 pub mod Heard
 pub mod AddUp
 pub mod Sheets
+pub mod Records
+pub mod SixFrames

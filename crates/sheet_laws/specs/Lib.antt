@@ -3,3 +3,4 @@ pub mod Calls
 pub mod Heard
 pub mod Totals
 pub mod Sheets
+pub mod Records

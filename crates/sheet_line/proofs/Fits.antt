@@ -80,9 +80,9 @@ line-fits domain t h =
 
 domain-fits :
     (domain : ℕ) (role : Role) (t : Tally) → length (t .counts) ≤ 7 → length (domainText domain role t) ≤ 234
-domain-fits domain Absent t h = omega arith
+domain-fits domain Absent t h = omega (arith, line-fits domain t h)
 domain-fits domain Slave t h = line-fits domain t h
-domain-fits domain Master t h = omega arith
+domain-fits domain Master t h = omega (arith, line-fits domain t h)
 
 other-fits : (n : ℕ) → length (otherText n) ≤ 27
 other-fits n =

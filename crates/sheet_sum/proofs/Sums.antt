@@ -13,8 +13,8 @@ use native.Mathlib.Omega.{arith}
 use lib.IntN.{ℤ, pos, negsuc, natAbs, subℕ, _+ℤ_, +ℤ-idl, +ℤ-idr, +ℤ-assoc}
 use lib.ListN.{length}
 use lib.Signed.{ltZ}
-use borrow.Author.Tests.{ltb-true, ltb-false, lt-ltb, le-ltb, le-leb, lt-leb, eqb-true, eqb-false}
-use lib.Dec.{ltb, eqb, lit<}
+use borrow.Author.Tests.{ltb-true, ltb-false, lt-ltb, le-ltb, leb-true, leb-false, eqb-true, eqb-false}
+use lib.Dec.{leb, ltb, eqb, lit<}
 use Rattle.promise.proofs.Tests.{either-told}
 use Rattle.sheet_sum.specs.declared.Wide.{Wide}
 use Rattle.sheet_sum.specs.declared.Sum.{Sum}
@@ -172,22 +172,21 @@ sum-exact ds h few =
 
 -- ---- `over`
 
-pub told-over : (z : ℤ) → (toldOf z ≡ Over → Within64 z → ⊥) × ((Within64 z → ⊥) → toldOf z ≡ Over)
-told-over (pos m) = (
-  λ over h.
-      let told : Plus m ≡ Over = rw (le-leb m (2 ^ 63 - 1) (omega arith)) at over in
-      let no : _≡_ {A = ℕ} 0 1 = cc in
-      omega arith,
-  λ out.
-      let above : 2 ^ 63 - 1 < m = omega arith in
-      rw (lt-leb m (2 ^ 63 - 1) above),
-)
-told-over (negsuc m) = (
-  λ over h.
-      let told : Minus (suc m) ≡ Over = rw (le-leb (suc m) (2 ^ 63) (omega arith)) at over in
-      let no : _≡_ {A = ℕ} 0 1 = cc in
-      omega arith,
-  λ out.
-      let above : 2 ^ 63 < suc m = omega arith in
-      rw (lt-leb (suc m) (2 ^ 63) above),
-)
+abbrev OverExactly : Told → ℤ → Type 0
+OverExactly told z = (told ≡ Over → Within64 z → ⊥) × ((Within64 z → ⊥) → told ≡ Over)
+
+pub told-over : (z : ℤ) → OverExactly (toldOf z) z
+told-over (pos m) =
+    either-told (λ (told : Told). OverExactly told (pos m)) (leb m _)
+    (λ e. (
+      λ over h. let no : _≡_ {A = ℕ} 0 1 = cc in omega arith,
+      λ out. absurd (out (omega (arith, leb-true m _ e))),
+    ))
+    (λ e. (λ over h. omega (arith, h, leb-false m _ e), λ out. refl))
+told-over (negsuc m) =
+    either-told (λ (told : Told). OverExactly told (negsuc m)) (leb (suc m) _)
+    (λ e. (
+      λ over h. let no : _≡_ {A = ℕ} 0 1 = cc in omega arith,
+      λ out. absurd (out (omega (arith, leb-true (suc m) _ e))),
+    ))
+    (λ e. (λ over h. omega (arith, h, leb-false (suc m) _ e), λ out. refl))

@@ -5,7 +5,7 @@ use mir.Val.{SFits}
 use mir.ValLaws.{toZ-ofZ}
 use borrow.Author.Needs.{needs}
 use Rattle.text.proofs.Laws.{then, named}
-use Rattle.sheet_line.specs.Signed.{toldText}
+use Rattle.sheet_line.specs.Signed.{signedText, toldText}
 use Rattle.sheet_line.specs.Line.{spreadText}
 use Rattle.sheet_line.proofs.put_spread.Statement.{statement}
 use Rattle.sheet_line.proofs.put_spread.Tie as tie
@@ -67,7 +67,9 @@ returns-2 c =
     named
     (ap (λ s. spreadText s sum) (sym (arm .spread .given .1)))
     (then
-    (then (rw least at (first .put-signed .ensures)) (rw greatest at (second .put-signed2 .ensures)))
+    (then
+    (named (ap signedText least) (first .put-signed .ensures))
+    (named (ap signedText greatest) (second .put-signed2 .ensures)))
     (named (ap toldText (told .told .ensures)) (last .put-told .ensures)))
 
 pub put-spread-spec : {M : Type 1} → statement M

@@ -24,7 +24,8 @@ returns c =
     rw (test .if1 .taken) (named (ap badText (number .next-item .ensures)) (wrote .put-bad .ensures))
 
 returns-2 : tie.Need-returns-2
-returns-2 c = rw (c .before .if1 .left, eq-eqb _ _ (c .if2 .taken)) nothing
+returns-2 c =
+    rw (c .before .if1 .left, eq-eqb (c .before .before .before .args .left) 0 (c .if2 .taken)) nothing
 
 next-item-requires-2 : tie.Need-next-item-requires-2
 next-item-requires-2 c κs = search needs
@@ -40,7 +41,7 @@ returns-3 c =
     let wrote = c .before .before in
     let number = wrote .before in
     let test = number .before .before in
-    rw (test .before .if1 .left, ne-eqb _ _ (test .if2 .left))
+    rw (test .before .if1 .left, ne-eqb _ 0 (test .if2 .left))
     (named (ap cutText (number .next-item2 .ensures)) (wrote .put-cut .ensures))
 
 pub put-refusal-spec : {M : Type 1} → statement M
