@@ -1,11 +1,11 @@
 -- The counts of a sheet add up to the records read. No contract cites this file.
 --   counts-add-up   those of the lines that are printed, and the closing line's
--- What is kept at each record is `Adds`: the counts of all tallies and the others are the records read, and a domain that
--- is no slave's has none. Assumes nothing.
-use Prim.Native.Nat.{ℕ, zero, suc, _+_, _%_, _^_, _≤_, _<_}
+-- What is kept at each record is `Adds`: the counts of all tallies and the others are the records read, and a domain
+-- that is no slave's has none. Assumes nothing.
+use Prim.Native.Nat.{ℕ, zero, suc, _+_, _%_, _^_, _<_}
 use mathlib.Core.Path.{_≡_, refl, sym, ap, subst, _∙_}
 use mathlib.Core.Logic.{_⊎_, inl, inr, ⊎-elim}
-use mathlib.Core.Bool.{Bool, true, false, cond}
+use mathlib.Core.Bool.{cond}
 use mathlib.Core.List.{List, [], _∷_}
 use native.Mathlib.Omega.{arith}
 use lib.Dec.{eqb, ltb}
@@ -19,7 +19,6 @@ use Rattle.settings.specs.declared.domain_settings.Role.the-variants.{Absent, S
 use Rattle.settings.specs.Node.{places}
 use Rattle.domain.specs.Records.{recordAt}
 use Rattle.slave_answer.specs.declared.FrameAnswer.{FrameAnswer}
-use Rattle.text.specs.Pieces.{nextItem}
 use Rattle.frame_read.specs.Read.{namedDomain}
 use Rattle.node.specs.declared.Node.{Node}
 use Rattle.node.specs.Frame.{addressedBy, nodeFrameOf}
@@ -32,7 +31,7 @@ use Rattle.sheet_tally.specs.declared.sheet.Sheet.{Sheet}
 use Rattle.sheet_tally.specs.Tally.{columns, columnOf, noTally, countedOf}
 use Rattle.sheet_tally.specs.Sheet.{tallyAt, noSheet, sheetWith}
 use Rattle.sheet_laws.specs.Calls.{entryIn, sheetAfter}
-use Rattle.sheet_laws.specs.Totals.{sumBy, countsIn, countsOf, linesCount, printedCount}
+use Rattle.sheet_laws.specs.Totals.{sumBy, countsIn, countsOf, linesCount}
 use Rattle.sheet_laws.specs.Sheets.{CountsAddUp}
 use Rattle.sheet_laws.proofs.Lists.{sum-set, one-at-most, at-set}
 use Rattle.sheet_laws.proofs.Tally.{next, counted-length, counted-total}
@@ -54,7 +53,9 @@ module _ (role : ℕ → Role) (s : Sheet) (k : ℕ) (a : Adds role s k) (few : 
       let more = next (s .other) (omega arith) in
       record { sixteen = a .sixteen; seven = a .seven; whole = omega arith; slaves = a .slaves }
 
-  module _ (named : ℕ) (answer : FrameAnswer) (counted : columnOf answer < columns) (slave : role (named % places) ≡ Slave) where
+  module _
+      (named : ℕ) (answer : FrameAnswer) (counted : columnOf answer < columns)
+      (slave : role (named % places) ≡ Slave) where
     abbrev at : ℕ
     at = named % places
 
@@ -64,7 +65,10 @@ module _ (role : ℕ → Role) (s : Sheet) (k : ℕ) (a : Adds role s k) (few : 
     there : at < length (s .tallies)
     there = omega (arith, a .sixteen)
 
-    stored : (i : ℕ) → tallyAt (set (s .tallies) at (countedOf old answer)) i ≡ cond (eqb at i) (countedOf old answer) (tallyAt (s .tallies) i)
+    stored :
+        (i : ℕ) →
+        tallyAt (set (s .tallies) at (countedOf old answer)) i
+        ≡ cond (eqb at i) (countedOf old answer) (tallyAt (s .tallies) i)
     stored i = at-set (s .tallies) at i (countedOf old answer) noTally there
 
     of-adds : Adds role (sheetWith s (Of named answer)) (k + 1)

@@ -102,7 +102,9 @@ module _ (d : Domain) (kept t : VirtualLocalTime) (bytes : List ℕ) where
   read-slave NoSuchType = λ h. absurd (omega (arith, h))
   read-slave (Values values) =
       either-told IsSlave (isFor (d .number) (d .settings .role) (domainIn values) slave)
-      (λ for h. slave-admitted (d .settings .role) (both (eqb (domainIn values) (d .number)) (isIn (d .settings .role) slave) for .1))
+      (λ for h.
+      slave-admitted (d .settings .role)
+      (both (eqb (domainIn values) (d .number)) (isIn (d .settings .role) slave) for .1))
       (λ no h. absurd (omega (arith, h)))
 
   pub frame-slave : columnOf (frameCallOf d kept t bytes .answer) < columns → d .settings .role ≡ Slave

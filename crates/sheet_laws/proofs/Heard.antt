@@ -6,17 +6,16 @@
 --   moves-within      each D is a number of 64 signed bits
 --   moves-few         and there are no more of them than calls
 -- Assumes nothing.
-use Prim.Native.Nat.{ℕ, zero, suc, _+_, _%_, _≤_, _<_}
+use Prim.Native.Nat.{ℕ, _+_, _%_, _≤_, _<_}
 use mathlib.Core.Path.{_≡_, refl, sym, ap, _∙_}
 use mathlib.Core.Bool.{Bool, true, false, cond, _&&_}
-use mathlib.Core.List.{List, [], _∷_, _++_, append-assoc, append-nil}
+use mathlib.Core.List.{List, [], _∷_, _++_, append-assoc}
 use native.Mathlib.Omega.{arith}
 use lib.Dec.{eqb, ltb}
 use lib.IntN.{ℤ}
 use lib.ListN.{length, length-set, length-append}
 use borrow.Author.Tests.{eqb-true}
 use Rattle.promise.proofs.Tests.{either}
-use Rattle.clock.specs.declared.reading.VirtualLocalTime.{VirtualLocalTime}
 use Rattle.settings.specs.Node.{places}
 use Rattle.domain.specs.Records.{recordAt}
 use Rattle.slave_answer.specs.declared.FrameAnswer.{FrameAnswer}

@@ -134,7 +134,8 @@ records-read n rs few =
 
 -- ---- no more calls than records
 
-asked-few : (x : Asked) (payload : List ℕ) (rest : List NodeCall) → length (askedThen x payload rest) ≤ suc (length rest)
+asked-few :
+    (x : Asked) (payload : List ℕ) (rest : List NodeCall) → length (askedThen x payload rest) ≤ suc (length rest)
 asked-few (Call q) payload rest = omega arith
 asked-few Bad payload rest = omega arith
 
@@ -192,7 +193,8 @@ account-in a held (piece ∷ rest) h =
     ∙ sym (split (length b / 20) a b (joined rest) refl)
     ∙ ap (takenOf a) (append-assoc held piece (joined rest))
 
-held-in : (held : List ℕ) (pieces : List (List ℕ)) → length held < 20 → heldIn held pieces ≡ restOf (held ++ joined pieces)
+held-in :
+    (held : List ℕ) (pieces : List (List ℕ)) → length held < 20 → heldIn held pieces ≡ restOf (held ++ joined pieces)
 held-in held [] h =
     let none : 0 ≡ length (held ++ []) / 20 * 20 = omega (arith, length-append held []) in
     sym (append-nil held) ∙ ap (λ (j : ℕ). drop j (held ++ [])) none

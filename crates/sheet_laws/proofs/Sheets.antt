@@ -4,25 +4,23 @@
 --   sheet-least, sheet-greatest   the least and the greatest D are those of all D
 --   sheet-none                    and they are none exactly where there is no D
 -- Assumes nothing.
-use Prim.Native.Nat.{ℕ, _+_, _^_, _≤_, _<_}
-use mathlib.Core.Path.{_≡_, refl, sym, ap, subst, _∙_}
-use mathlib.Core.List.{List, []}
+use Prim.Native.Nat.{ℕ, _<_}
+use mathlib.Core.Path.{_≡_, refl, sym, ap, _∙_}
+use mathlib.Core.List.{List}
 use native.Mathlib.Omega.{arith}
 use lib.IntN.{ℤ}
-use lib.ListN.{length, getD, getD-replicate}
+use lib.ListN.{getD, getD-replicate}
 use Rattle.settings.specs.Node.{places}
 use Rattle.node.specs.declared.Node.{Node}
 use Rattle.node_call.specs.Calls.{Call}
 use Rattle.node_laws.specs.Leaps.{movesIn}
-use Rattle.sheet_sum.specs.declared.Sum.{Sum}
 use Rattle.sheet_sum.specs.Sum.{noSum, sumWithAll, sumOf}
 use Rattle.sheet_sum.proofs.Sums.{sum-exact}
-use Rattle.sheet_tally.specs.declared.spread.Spread.{Spread}
 use Rattle.sheet_tally.specs.declared.spread.Spread.the-variants.{None}
 use Rattle.sheet_tally.specs.declared.Tally.{Tally}
 use Rattle.sheet_tally.specs.Tally.{columns, noTally}
 use Rattle.sheet_tally.specs.Sheet.{noSheet}
-use Rattle.sheet_laws.specs.Heard.{heardIn, countIn, differencesIn, IsLeast, IsGreatest}
+use Rattle.sheet_laws.specs.Heard.{heardIn}
 use Rattle.sheet_laws.specs.Sheets.{tallyIn, SheetCounts, SheetSum, SheetLeast, SheetGreatest, SheetNone}
 use Rattle.sheet_laws.proofs.Tally.{tallyAll, spreadAll, all-counts, all-sum, all-spread}
 use Rattle.sheet_laws.proofs.Spreads.{least-of, greatest-of, none-of}

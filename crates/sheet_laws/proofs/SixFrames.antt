@@ -1,5 +1,6 @@
--- Calls that meet the hypotheses of the laws, computed: six frames of the bench's slave, three SYNCs with their FUPs, of
--- which the second is 5 ns late and the third 7 ns early. No contract cites this file.
+-- Calls that meet the hypotheses of the laws, computed: six frames of the bench's slave, three SYNCs with their FUPs.
+-- No contract cites this file.
+--   moves-met    two D
 --   spread-met   the least D is -5 and the greatest 7
 --   sum-met      their sum is 2
 --   line-met     and the sheet is `1 3 3 0 0 0 0 0 -5 7 2` and `other 0`

@@ -3,7 +3,7 @@
 --   none-of                 and is none exactly where there is no D
 -- The two differ in which of two numbers they pick (`Picks`). Assumes nothing.
 use Prim.Native.Nat.{ℕ}
-use mathlib.Core.Path.{_≡_, refl, sym, subst, ap, _∙_}
+use mathlib.Core.Path.{_≡_, refl, sym, subst, _∙_}
 use mathlib.Core.Logic.{_⊎_, inl, inr, ⊎-elim}
 use mathlib.Core.Bool.{Bool, true, false, cond, not}
 use mathlib.Core.List.{List, [], _∷_}
@@ -13,9 +13,8 @@ use lib.Dec.{T, ltb→lt, le→leb}
 use lib.IntN.{ℤ, pos, negsuc}
 use lib.Signed.{ltZ, leZ, _≤ℤ_, _<ℤ_, leZ-yes, ltZ-yes, ltZ-no, ≤ℤ-refl, <ℤ-≤ℤ-trans, clashℤ}
 use Rattle.promise.proofs.Tests.{either-told}
-use Rattle.sheet_tally.specs.declared.spread.Spread.{Spread}
 use Rattle.sheet_tally.specs.declared.spread.Spread.the-variants.{None, Of}
-use Rattle.sheet_tally.specs.Spread.{lesser, greater, spreadWith}
+use Rattle.sheet_tally.specs.Spread.{lesser, greater}
 use Rattle.sheet_laws.specs.Heard.{IsIn, IsLeast, IsGreatest}
 use Rattle.sheet_laws.proofs.Tally.{spreadAll}
 
@@ -59,7 +58,9 @@ abbrev picked : (ℤ → ℤ → ℤ) → ℤ → List ℤ → ℤ
 picked pick z [] = z
 picked pick z (d ∷ rest) = picked pick (pick d z) rest
 
-picked-in : {before : ℤ → ℤ → Type 0} (pick : ℤ → ℤ → ℤ) → Picks pick before → (z : ℤ) (ds : List ℤ) → IsIn (picked pick z ds) (z ∷ ds)
+picked-in :
+    {before : ℤ → ℤ → Type 0} (pick : ℤ → ℤ → ℤ) → Picks pick before → (z : ℤ) (ds : List ℤ) →
+    IsIn (picked pick z ds) (z ∷ ds)
 picked-in pick p z [] = inl refl
 picked-in pick p z (d ∷ rest) =
     ⊎-elim

@@ -4,7 +4,7 @@
 --   all-counts                   each count rises by how many answers are of its column
 --   all-sum, all-spread          the sum and the spread are those of the answers' D
 -- Assumes nothing.
-use Prim.Native.Nat.{ℕ, zero, suc, _+_, _-_, _^_, _≤_, _<_}
+use Prim.Native.Nat.{ℕ, _+_, _-_, _^_, _≤_, _<_}
 use mathlib.Core.Path.{_≡_, refl, sym, ap, _∙_}
 use mathlib.Core.Bool.{Bool, true, false, cond}
 use mathlib.Core.List.{List, [], _∷_, _++_}
@@ -60,7 +60,8 @@ counted-sum t FirstTaken = refl
 counted-sum t (Updated d) = refl
 counted-sum t (Refused refusal) = more-sum t (columnOf (Refused refusal))
 
-counted-spread : (t : Tally) (answer : FrameAnswer) → countedOf t answer .spread ≡ spreadAll (t .spread) (movesOf answer)
+counted-spread :
+    (t : Tally) (answer : FrameAnswer) → countedOf t answer .spread ≡ spreadAll (t .spread) (movesOf answer)
 counted-spread t SyncTaken = refl
 counted-spread t FirstTaken = refl
 counted-spread t (Updated d) = refl
@@ -147,7 +148,8 @@ spread-append : (s : Spread) (xs ys : List ℤ) → spreadAll s (xs ++ ys) ≡ s
 spread-append s [] ys = refl
 spread-append s (x ∷ xs) ys = spread-append (spreadWith s x) xs ys
 
-pub all-sum : (t : Tally) (answers : List FrameAnswer) → tallyAll t answers .sum ≡ sumWithAll (t .sum) (differencesIn answers)
+pub all-sum :
+    (t : Tally) (answers : List FrameAnswer) → tallyAll t answers .sum ≡ sumWithAll (t .sum) (differencesIn answers)
 all-sum t [] = refl
 all-sum t (answer ∷ rest) =
     all-sum (countedOf t answer) rest
@@ -155,7 +157,8 @@ all-sum t (answer ∷ rest) =
     ∙ sym (sum-append (t .sum) (movesOf answer) (differencesIn rest))
 
 pub all-spread :
-    (t : Tally) (answers : List FrameAnswer) → tallyAll t answers .spread ≡ spreadAll (t .spread) (differencesIn answers)
+    (t : Tally) (answers : List FrameAnswer) →
+    tallyAll t answers .spread ≡ spreadAll (t .spread) (differencesIn answers)
 all-spread t [] = refl
 all-spread t (answer ∷ rest) =
     all-spread (countedOf t answer) rest

@@ -1,5 +1,5 @@
--- Paper 02, request 13: what is proved of the sheet. Each statement is of any node and any calls, fewer than 2^64, and of
--- the sheet that they make of an empty one. Assumes nothing.
+-- Paper 02, request 13: what is proved of the sheet. Each statement is of any node and any calls, and of the sheet that
+-- they make of an empty one; where a count is in it, of fewer than 2^64 calls. Assumes nothing.
 use Prim.Native.Nat.{ℕ, _^_, _<_}
 use mathlib.Core.Path.{_≡_}
 use mathlib.Core.List.{List, []}

@@ -1,4 +1,4 @@
-// The sheet in text (paper 02, request 13): a line for each slave, and the closing line. Fields are parted by one blank.
+// The sheet in text (paper 02, request 13): a line for each slave, and the closing line.
 pub mod signed;
 
 use crate::signed::put_plain;

@@ -4,8 +4,8 @@
 --   one-on         what is left from a place on, a record further
 --   at-end         and where there is none
 -- Assumes nothing.
-use Prim.Native.Nat.{ℕ, zero, suc, _+_, _-_, _*_, _/_, _≤_, _<_}
-use mathlib.Core.Path.{_≡_, refl, sym, ap, _∙_}
+use Prim.Native.Nat.{ℕ, suc, _+_, _-_, _/_, _≤_, _<_}
+use mathlib.Core.Path.{_≡_, ap, _∙_}
 use mathlib.Core.List.{List, [], _∷_}
 use native.Mathlib.Omega.{arith}
 use lib.ListN.{length, take, drop, length-drop}
@@ -29,12 +29,14 @@ no-record bytes h = let none : length bytes / 20 ≡ 0 = omega arith in ap (λ (
 pub one-on :
     (a : Account) (bytes : List ℕ) (at : ℕ) → 20 ≤ length bytes - at →
     afterRecords a (wholeOf (drop at bytes))
-    ≡ afterRecords (afterRecord a (take 20 (drop at bytes))) (wholeOf (drop (at + 20) bytes))
+    ≡ afterRecords (afterRecord a (take (at + 20 - at) (drop at bytes))) (wholeOf (drop (at + 20) bytes))
 one-on a bytes at h =
     let whole : 20 ≤ length (drop at bytes) = omega (arith, length-drop at bytes) in
+    let twenty : 20 ≡ at + 20 - at = omega arith in
     ap (afterRecords a) (first-record (drop at bytes) whole)
     ∙ ap (λ (rest : List ℕ). afterRecords (afterRecord a (take 20 (drop at bytes))) (wholeOf rest))
     (drop-drop 20 at bytes)
+    ∙ ap (λ (k : ℕ). afterRecords (afterRecord a (take k (drop at bytes))) (wholeOf (drop (at + 20) bytes))) twenty
 
 pub at-end :
     (a : Account) (bytes : List ℕ) (at : ℕ) → length bytes - at < 20 → afterRecords a (wholeOf (drop at bytes)) ≡ a

@@ -1,4 +1,5 @@
-// What the program prints (paper 02, request 13): the refusal of a record, if any, as the bench prints it, and the sheet.
+// What the program prints (paper 02, request 13): the refusal of a record, if any, as the bench prints it, and then
+// the sheet.
 use crate::Account;
 use sheet_line::put_sheet;
 use text::lines::put_bad;

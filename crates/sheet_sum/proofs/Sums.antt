@@ -4,9 +4,9 @@
 --   sum-exact                 after fewer than 2^64 D of 64 bits the sum is their total
 --   told-over                 a sum tells `Over` exactly where it is outside signed 64 bits
 -- Assumes nothing.
-use Prim.Native.Nat.{ℕ, zero, suc, _+_, _-_, _*_, _^_, _≤_, _<_}
+use Prim.Native.Nat.{ℕ, suc, _+_, _-_, _*_, _^_, _≤_, _<_}
 use mathlib.Core.Path.{_≡_, refl, sym, ap, _∙_}
-use mathlib.Core.Bool.{Bool, true, false}
+use mathlib.Core.Bool.{true, false}
 use mathlib.Core.List.{List, [], _∷_}
 use native.Mathlib.Nat.{zero-add, le-of-lt, lt-of-le-of-lt, mul-le-mul-right}
 use native.Mathlib.Omega.{arith}
@@ -19,8 +19,8 @@ use Rattle.promise.proofs.Tests.{either-told}
 use Rattle.sheet_sum.specs.declared.Wide.{Wide}
 use Rattle.sheet_sum.specs.declared.Sum.{Sum}
 use Rattle.sheet_sum.specs.declared.Told.{Told}
-use Rattle.sheet_sum.specs.declared.Told.the-variants.{Plus, Minus, Over}
-use Rattle.sheet_sum.specs.Wide.{valueOf, wideOf, moreOf, gapOf}
+use Rattle.sheet_sum.specs.declared.Told.the-variants.{Over}
+use Rattle.sheet_sum.specs.Wide.{valueOf, moreOf, gapOf}
 use Rattle.sheet_sum.specs.Sum.{
   total,
   Within64,

@@ -5,7 +5,6 @@ use mathlib.Core.List.{List, [], _∷_}
 use lib.Dec.{leb}
 use lib.IntN.{ℤ, pos, negsuc, subℕ, _+ℤ_}
 use lib.Signed.{mag}
-use Rattle.sheet_sum.specs.declared.Wide.{Wide}
 use Rattle.sheet_sum.specs.declared.Sum.{Sum}
 use Rattle.sheet_sum.specs.declared.Told.{Told}
 use Rattle.sheet_sum.specs.declared.Told.the-variants.{Plus, Minus, Over}

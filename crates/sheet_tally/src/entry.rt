@@ -1,5 +1,5 @@
-// Whose an answered record is (paper 02, request 13): a domain's, where its frame is taken or refused under 5 to 9; else
-// it is one of the others. Under these numbers the domain in byte 2 is a slave's, which 4 has let pass.
+// Whose an answered record is (paper 02, request 13): a domain's, where its frame is taken or refused under 5 to 9;
+// else it is one of the others. Under these numbers the domain in byte 2 is a slave's, which 4 has let pass.
 use crate::Tally;
 use crate::column_of;
 use frame_read::named_domain;

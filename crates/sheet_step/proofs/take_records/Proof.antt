@@ -1,11 +1,12 @@
--- `sheet_step::take_records` meets its contract: what is left makes of the account what the whole makes of the first. Assumes nothing.
-use Prim.Native.Nat.{ℕ, _+_, _-_, _≤_}
+-- `sheet_step::take_records` meets its contract: what is left makes of the account what the whole makes of the first.
+-- Assumes nothing.
+use Prim.Native.Nat.{_+_, _-_, _≤_}
 use mathlib.Core.Path.{_≡_, refl, sym, ap, _∙_}
 use native.Mathlib.Omega.{arith}
-use lib.ListN.{length, take, drop, length-drop}
+use lib.ListN.{length, drop}
 use borrow.Author.Needs.{needs}
 use Rattle.sheet_step.specs.declared.Account.{Account}
-use Rattle.sheet_step.specs.Account.{afterRecord, afterRecords}
+use Rattle.sheet_step.specs.Account.{afterRecords}
 use Rattle.sheet_step.proofs.Records.{wholeOf, one-on, at-end}
 use Rattle.sheet_step.proofs.take_records.Statement.{statement}
 use Rattle.sheet_step.proofs.take_records.Tie as tie
@@ -48,14 +49,9 @@ loop-less c = omega arith
 loop-again : tie.Need-loop-again Inv-loop μ-loop
 loop-again c =
     let loop = c .before .before .before .loop in
-    let bytes = c .before .before .before .before .before .args .bytes .now in
-    let twenty : loop .at + 20 - loop .at ≡ 20 = omega arith in (
+    let bytes = c .before .before .before .before .before .args .bytes .now in (
       omega arith,
       ap (λ (a : Account). afterRecords a (wholeOf (drop (loop .at + 20) bytes))) (c .take-record .ensures)
-          ∙ ap
-          (λ (k : ℕ).
-          afterRecords (afterRecord (loop .next) (take k (drop (loop .at) bytes))) (wholeOf (drop (loop .at + 20) bytes)))
-          twenty
           ∙ sym (one-on (loop .next) bytes (loop .at) (omega arith))
           ∙ loop .inv .1,
     )

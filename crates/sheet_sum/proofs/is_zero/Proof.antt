@@ -1,6 +1,5 @@
 -- `sheet_sum::is_zero` meets its contract: without a high half the low half is all, and with one the number is not 0.
 -- Assumes nothing.
-use Prim.Native.Nat.{_^_, _≤_}
 use native.Mathlib.Omega.{arith}
 use borrow.Author.Tests.{ne-eqb}
 use Rattle.sheet_sum.specs.Wide.{valueOf}

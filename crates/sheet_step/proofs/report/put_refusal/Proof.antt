@@ -1,6 +1,6 @@
 -- `sheet_step::report::put_refusal` meets its contract: the tests are the definition's. Assumes nothing.
 use borrow.Author.Needs.{needs}
-use mathlib.Core.Path.{_≡_, sym, ap, _∙_}
+use mathlib.Core.Path.{ap}
 use borrow.Author.Tests.{eq-eqb, ne-eqb}
 use Rattle.text.specs.Lines.{badText, cutText}
 use Rattle.text.proofs.Laws.{named, nothing}

@@ -1,6 +1,5 @@
 -- `sheet_tally::entry::entry_of` meets its contract: each arm knows the answer. Assumes nothing.
 use borrow.Author.Needs.{needs}
-use mathlib.Core.Path.{sym, ap, _∙_}
 use Rattle.sheet_tally.proofs.entry.entry_of.Statement.{statement}
 use Rattle.sheet_tally.proofs.entry.entry_of.Tie as tie
 

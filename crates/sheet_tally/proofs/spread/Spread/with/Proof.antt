@@ -1,6 +1,5 @@
 -- `sheet_tally::spread::Spread::with` meets its contract: each arm knows the spread. Assumes nothing.
 use borrow.Author.Needs.{needs}
-use mathlib.Core.Path.{sym, ap}
 use mir.Syntax.{w64}
 use mir.ValLaws.{toZ-ofZ}
 use Rattle.sheet_tally.proofs.spread.Spread.with.Statement.{statement}
