@@ -13,7 +13,6 @@ use sheet_tally::spread::Spread;
 use text::put_byte;
 use text::put_bytes;
 use text::put_decimal;
-ghost use mathlib.Core.Path.{_≡_};
 ghost use Rattle.text.specs.Text.{Puts};
 ghost use Rattle.sheet_line.specs.Line.{
   countsText,

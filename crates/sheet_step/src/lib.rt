@@ -14,7 +14,6 @@ use text::pieces::next_item;
 ghost use Prim.Native.Nat.{_/_};
 ghost use mathlib.Core.Path.{_≡_};
 ghost use lib.ListN.{length};
-ghost use Rattle.bench_record.specs.Record.{payloadOf};
 ghost use Rattle.sheet_step.specs.Account.{accountOf, called, afterRecord, recordsOf, afterRecords};
 
 // Where a reading of records stands.
