@@ -46,7 +46,7 @@ oneMoreIn t column =
 abbrev pub withDifference : Tally → ℤ → Tally
 withDifference t d = record { counts = t .counts; spread = spreadWith (t .spread) d; sum = sumWith (t .sum) d }
 
--- ---- D is that "of each update": the first FUP has none.
+-- ---- "On each update of a set base let D be": the first FUP sets the base, and has none.
 abbrev pub measuredBy : FrameAnswer → Tally → Tally
 measuredBy SyncTaken t = t
 measuredBy FirstTaken t = t
