@@ -1,2 +1,3 @@
 -- The laws of `frame_read`.
+pub mod Laws
 pub mod Only

@@ -14,24 +14,21 @@ use mathlib.Core.List.{List, [], _∷_}
 use native.Mathlib.Nat.{mod-eq-of-lt}
 use native.Mathlib.Omega.{arith}
 use lib.Dec.{leb, eqb}
-use lib.ListN.{length, getD}
+use lib.ListN.{length}
 use lib.Seq.{getD-set-same}
 use borrow.Author.Tests.{eqb-true, le-leb}
 use Rattle.settings.specs.Node.{places}
 use Rattle.promise.proofs.Tests.{either, either-told, both}
 use Rattle.clock.specs.declared.reading.VirtualLocalTime.{VirtualLocalTime}
 use Rattle.clock.specs.Reading.{isReading}
-use Rattle.frame.specs.declared.types.FrameType.{FrameType}
-use Rattle.frame.specs.declared.types.FrameType.the-variants.{PlainSync, SecuredSync, PlainFup, SecuredFup, Unknown}
 use Rattle.frame.specs.declared.values.Sync.{Sync}
 use Rattle.frame.specs.declared.values.Fup.{Fup}
 use Rattle.frame.specs.declared.values.Frame.{Frame}
 use Rattle.frame.specs.declared.values.Frame.the-variants.{Sync as sync, Fup as fup}
-use Rattle.frame.specs.Types.{typeOf}
-use Rattle.frame.specs.ByteTwo.{domainOf}
 use Rattle.frame_read.specs.declared.Read.{Read}
 use Rattle.frame_read.specs.declared.Read.the-variants.{LengthNot8, NoSuchType, Values}
-use Rattle.frame_read.specs.Read.{valuesOf, readOf}
+use Rattle.frame_read.specs.Read.{readOf}
+use Rattle.frame_read.proofs.Laws.{Names, read-names}
 use Rattle.frame_check.specs.Check.{isTaken}
 use Rattle.settings.specs.declared.domain_settings.DomainSettings.{DomainSettings}
 use Rattle.settings.specs.declared.domain_settings.Role.{Role}
@@ -293,26 +290,11 @@ module _ (k : Link) (l : Linked k) (h : History) (a : AreCalls h) where
 
 -- ---- a heard frame is for the domain's place
 
-abbrev Says : List ℕ → Read → Type 0
-Says bytes LengthNot8 = Unit {0}
-Says bytes NoSuchType = Unit {0}
-Says bytes (Values values) = domainIn values ≡ domainOf (getD bytes 2 0)
-
-values-say : (type : FrameType) (bytes : List ℕ) → Says bytes (valuesOf type bytes)
-values-say PlainSync bytes = refl
-values-say SecuredSync bytes = refl
-values-say PlainFup bytes = refl
-values-say SecuredFup bytes = refl
-values-say Unknown bytes = tt
-
 own-place : (k : Link) → Linked k → (bytes : List ℕ) → isHeard k bytes ≡ true → addressedBy bytes ≡ k .domain
 own-place k l bytes e =
     let heard = heard-as k bytes e in
-    let says =
-    subst (Says bytes) (heard .reads)
-    (either (Says bytes) (eqb (length bytes) 8) (values-say (typeOf (getD bytes 0 0)) bytes) tt)
-    in
-    ap (λ (x : ℕ). x % places) (sym says ∙ heard .domain) ∙ mod-eq-of-lt (l .domain)
+    let named = subst (Names bytes) (heard .reads) (read-names bytes) in
+    ap (λ (x : ℕ). x % places) (sym named ∙ heard .domain) ∙ mod-eq-of-lt (l .domain)
 
 -- ---- and stepped by its record at a good reading
 

@@ -1,10 +1,9 @@
--- An item of the trial: a settings block, a queue or a call record, and its line. Assumes nothing.
+-- An item of the trial: a settings block, a queue, a frame on one record or any other call record, and its line.
+-- Assumes nothing.
 use Prim.Native.Nat.{ℕ, min}
-use mathlib.Core.Bool.{Bool, true, false}
 use mathlib.Core.List.{List, _++_}
 use lib.ListN.{getD, take, replicate}
 use Rattle.text.specs.Fields.{pairAt, bytesAt}
-use Rattle.text.specs.Lines.{newline, answerText}
 use Rattle.settings.specs.Node.{verdictNumber}
 use Rattle.node.specs.declared.Node.{Node}
 use Rattle.node.specs.declared.NewNode.{NewNode}
@@ -13,10 +12,13 @@ use Rattle.node_call.specs.declared.Request.{Request}
 use Rattle.node_call.specs.declared.Request.the-variants.{Frame, Read, Set, Cycle, Confirm}
 use Rattle.bench_record.specs.declared.step.Step.{Step}
 use Rattle.bench_record.specs.Record.{askedBy}
-use Rattle.bench_record.specs.Step.{Stepped, RecordStepped}
-use Rattle.trial_step.specs.TrialLine.{trialLine}
+use Rattle.bench_record.specs.Step.{RecordStepped}
+use Rattle.trial_step.specs.declared.item.Item.{Item}
+use Rattle.trial_step.specs.declared.item.Item.the-variants.{Settings, Queue, One, Record}
+use Rattle.trial_step.specs.TrialLine.{trialLine, Numbered}
 use Rattle.trial_step.specs.Queue.{QueueStepped}
-use Rattle.trial_step.specs.Item.{isSettings, holdsQueue}
+use Rattle.trial_step.specs.One.{OneStepped}
+use Rattle.trial_step.specs.Item.{itemOf}
 use Rattle.trial_step.specs.Block.{settingsOf}
 
 -- ---- Kind 1: the domain byte is the frame's length, its bytes are the payload's and beyond eight zeros.
@@ -44,18 +46,16 @@ renewedBy bytes = newOf (settingsOf bytes)
 
 abbrev pub Renewed : (item : ℕ) (bytes : List ℕ) (at : ℕ) (before : List ℕ) → Step → List ℕ → Type 0
 Renewed item bytes at before r after =
-    let new = renewedBy bytes in
-    Stepped (new .node) true (answerText item (verdictNumber (new .verdict)) ++ newline) at before r after
+    let new = renewedBy bytes in Numbered (new .node) (verdictNumber (new .verdict)) item at before r after
 
--- ---- An item by whether it is a settings block, and whether a queue.
+-- ---- An item by what it is.
 abbrev pub ItemStepped :
-    (settings queue : Bool) →
-    Node → (item : ℕ) (bytes : List ℕ) (at : ℕ) (before : List ℕ) → Step → List ℕ → Type 0
-ItemStepped true queue n item bytes at before r after = Renewed item bytes at before r after
-ItemStepped false true n item bytes at before r after = QueueStepped n item bytes at before r after
-ItemStepped false false n item bytes at before r after =
+    Item → Node → (item : ℕ) (bytes : List ℕ) (at : ℕ) (before : List ℕ) → Step → List ℕ → Type 0
+ItemStepped Settings n item bytes at before r after = Renewed item bytes at before r after
+ItemStepped Queue n item bytes at before r after = QueueStepped n item bytes at before r after
+ItemStepped One n item bytes at before r after = OneStepped n item bytes at before r after
+ItemStepped Record n item bytes at before r after =
     RecordStepped (askedBy bytes) (trialLine item) (givenFrame bytes) (lentBuffer bytes) n item at before r after
 
 abbrev pub TrialStepped : Node → (item : ℕ) (bytes : List ℕ) (at : ℕ) (before : List ℕ) → Step → List ℕ → Type 0
-TrialStepped n item bytes at before r after =
-    ItemStepped (isSettings bytes) (holdsQueue bytes) n item bytes at before r after
+TrialStepped n item bytes at before r after = ItemStepped (itemOf bytes) n item bytes at before r after

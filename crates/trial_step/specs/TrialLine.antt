@@ -1,17 +1,21 @@
 -- The trial's line of an answer. Assumes nothing.
 use Prim.Native.Nat.{ℕ}
+use mathlib.Core.Bool.{true}
 use mathlib.Core.List.{List, [], _∷_, _++_}
 use Rattle.text.specs.Text.{hexByte, hexOf, decimal}
-use Rattle.text.specs.Lines.{blank}
+use Rattle.text.specs.Lines.{blank, newline, answerText}
 use Rattle.settings.specs.declared.domain_settings.UserBytes.{UserBytes}
 use Rattle.call_read.specs.declared.ReadAnswer.{ReadAnswer}
 use Rattle.call_read.specs.declared.ReadAnswer.the-variants as read
+use Rattle.node.specs.declared.Node.{Node}
 use Rattle.node.specs.CycleAnswer.{cycleCount}
 use Rattle.node_call.specs.declared.CallAnswer.{CallAnswer}
 use Rattle.node_call.specs.declared.CallAnswer.the-variants.{Frame, Read, Set, Cycle, Confirm}
 use Rattle.node_queue.specs.declared.QueueAnswer.{QueueAnswer}
 use Rattle.node_queue.specs.Queue.{queueNumber}
 use Rattle.node_call.specs.Calls.{callNumber}
+use Rattle.bench_record.specs.declared.step.Step.{Step}
+use Rattle.bench_record.specs.Step.{Stepped}
 use Rattle.bench_record.specs.Line.{shownText, lineWith}
 
 -- ---- User bytes 0 to 2.
@@ -44,3 +48,7 @@ trialLine item answer buffer = lineWith item (callNumber answer) (trialValues an
 -- ---- A queue's line has its number and the answer buffer.
 abbrev pub queueLine : (item : ℕ) → QueueAnswer → (buffer : List ℕ) → List ℕ
 queueLine item answer buffer = lineWith item (queueNumber answer) (bufferText buffer)
+
+-- ---- The line of an answer that has no values, and the node after it.
+abbrev pub Numbered : Node → (number item at : ℕ) (before : List ℕ) → Step → List ℕ → Type 0
+Numbered n number item at before r after = Stepped n true (answerText item number ++ newline) at before r after

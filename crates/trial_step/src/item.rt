@@ -1,42 +1,59 @@
-// An item of the trial by its first bytes: whether it is a settings block or a queue, and how long it is.
+// An item of the trial by its first bytes: what it is, and how long.
 use crate::queue::frame_bytes;
 use text::fields::byte_at;
 ghost use mathlib.Core.Path.{_≡_};
-ghost use Rattle.trial_step.specs.Item.{isSettings, holdsQueue, itemLength};
+ghost use Rattle.trial_step.specs.Item.{kindOf, itemOf, lengthAs, itemLength};
 
-// Whether an item is a settings block.
-pub fn is_settings(item: &[u8]) -> bool
-    ensures { λ r. ⌜ r ≡ isSettings (now (item .entry)) ⌝ }
-{
-    if byte_at(item, 0) != 0xC7 {
-        return false;
-    }
-    byte_at(item, 1) == 0x3B
+pub enum Item {
+    // A settings block.
+    Settings,
+    // A queue, kind 6.
+    Queue,
+    // A frame on one record, kind 7.
+    One,
+    // Any other call record, or none.
+    Record,
 }
 
-// Whether an item is a queue.
-pub fn holds_queue(item: &[u8]) -> bool
-    ensures { λ r. ⌜ r ≡ holdsQueue (now (item .entry)) ⌝ }
+// What an item is: by its mark, and a call record by its kind.
+pub fn item_of(bytes: &[u8]) -> Item
+    ensures { λ r. ⌜ r ≡ itemOf (now (bytes .entry)) ⌝ }
 {
-    if byte_at(item, 0) != 0xC7 {
-        return false;
+    if byte_at(bytes, 0) != 0xC7 {
+        return Item::Record;
     }
-    if byte_at(item, 1) != 0x3A {
-        return false;
+    match byte_at(bytes, 1) {
+        0x3A => kind_of(byte_at(bytes, 2)),
+        0x3B => Item::Settings,
+        _ => Item::Record,
     }
-    byte_at(item, 2) == 6
 }
 
-// How many bytes the item has that begins here: those of a settings block or of a queue, or 20. Where its first bytes
-// have not come yet, it is more than there are.
+fn kind_of(kind: u8) -> Item
+    ensures { λ r. ⌜ r ≡ kindOf kind ⌝ }
+{
+    match kind {
+        6 => Item::Queue,
+        7 => Item::One,
+        _ => Item::Record,
+    }
+}
+
+// How many bytes the item has that begins here. Where its first bytes have not come yet, it is more than there are.
 pub fn item_length(bytes: &[u8]) -> usize
     ensures { λ r. ⌜ r ≡ itemLength (now (bytes .entry)) ⌝ }
 {
-    if is_settings(bytes) {
-        return 4 + 128 * (byte_at(bytes, 3) as usize);
+    length_as(item_of(bytes), bytes)
+}
+
+// Those of a settings block or of a queue, or 20.
+fn length_as(item: Item, bytes: &[u8]) -> usize
+    ensures { λ r. ⌜ r ≡ lengthAs item (now (bytes .entry)) ⌝ }
+{
+    match item {
+        Item::Settings => 4 + 128 * (byte_at(bytes, 3) as usize),
+        Item::Queue => 20 + 8 * (byte_at(bytes, 3) as usize) + frame_bytes(bytes),
+        Item::One => 20,
+        Item::Record => 20,
     }
-    if holds_queue(bytes) {
-        return 20 + 8 * (byte_at(bytes, 3) as usize) + frame_bytes(bytes);
-    }
-    20
 }

@@ -1,14 +1,16 @@
-// An item of the trial: a settings block, a queue or a call record, and its line.
+// An item of the trial: a settings block, a queue, a frame on one record or any other call record, and its line.
 pub mod block;
 mod domain_block;
 pub mod item;
 pub mod line;
+mod one;
 mod queue;
 
 use crate::block::settings_of;
-use crate::item::holds_queue;
-use crate::item::is_settings;
+use crate::item::Item;
+use crate::item::item_of;
 use crate::line::put_trial_line;
+use crate::one::take_one;
 use crate::queue::take_queue;
 use bench_record::Asked;
 use bench_record::asked_by;
@@ -23,8 +25,9 @@ use text::lines::put_answer;
 use text::pieces::least;
 use text::put_byte;
 ghost use mathlib.Core.Path.{_≡_};
-ghost use Rattle.bench_record.specs.Step.{Answered};
-ghost use Rattle.trial_step.specs.TrialLine.{trialLine};
+ghost use Rattle.bench_record.specs.Record.{askedBy};
+ghost use Rattle.bench_record.specs.Step.{Answered, RecordStepped};
+ghost use Rattle.trial_step.specs.TrialLine.{trialLine, Numbered};
 ghost use Rattle.trial_step.specs.Step.{
   paddedFrame,
   givenFrame,
@@ -38,12 +41,18 @@ ghost use Rattle.trial_step.specs.Step.{
 pub fn trial_step(node: Node, item: u64, bytes: &[u8], out: &mut [u8], at: usize) -> Step
     ensures { λ r. ⌜ TrialStepped node item (now (bytes .entry)) at (now (out .entry)) r (now (out .exit)) ⌝ }
 {
-    if is_settings(bytes) {
-        return renew(item, bytes, out, at);
+    match item_of(bytes) {
+        Item::Settings => renew(item, bytes, out, at),
+        Item::Queue => take_queue(node, item, bytes, out, at),
+        Item::One => take_one(node, item, bytes, out, at),
+        Item::Record => take_record(node, item, bytes, out, at),
     }
-    if holds_queue(bytes) {
-        return take_queue(node, item, bytes, out, at);
-    }
+}
+
+fn take_record(node: Node, item: u64, bytes: &[u8], out: &mut [u8], at: usize) -> Step
+    ensures { λ r. ⌜ RecordStepped (askedBy (now (bytes .entry))) (trialLine item) (givenFrame (now (bytes .entry)))
+        (lentBuffer (now (bytes .entry))) node item at (now (out .entry)) r (now (out .exit)) ⌝ }
+{
     match asked_by(bytes) {
         Asked::Bad => bad_record(node, item, out, at),
         Asked::Call(request) => ask(node, item, request, bytes, out, at),
@@ -77,7 +86,14 @@ fn renew(item: u64, bytes: &[u8], out: &mut [u8], at: usize) -> Step
     let new = Node::new(settings_of(bytes));
     let verdict = new.verdict;
     let node = new.node;
-    let newline = put_answer(out, at, item, verdict.number());
+    numbered(node, verdict.number(), item, out, at)
+}
+
+// A line that has the number alone, and the node after it.
+fn numbered(node: Node, number: u8, item: u64, out: &mut [u8], at: usize) -> Step
+    ensures { λ r. ⌜ Numbered node number item at (now (out .entry)) r (now (out .exit)) ⌝ }
+{
+    let newline = put_answer(out, at, item, number);
     let end = put_byte(out, newline, b'\n');
     Step {
         node,

@@ -3,17 +3,14 @@
 -- Assumes nothing.
 use Prim.Native.Nat.{ℕ}
 use mathlib.Core.Path.{_≡_}
-use mathlib.Core.Bool.{Bool}
 use mathlib.Core.List.{List}
 use Rattle.promise.specs.Only.{OnlyOne}
 use Rattle.promise.proofs.Laws.{equation-only}
-use Rattle.trial_step.specs.Item.{isSettings, holdsQueue, itemLength}
+use Rattle.trial_step.specs.declared.item.Item.{Item}
+use Rattle.trial_step.specs.Item.{itemOf, itemLength}
 
-pub is-settings-only : (item : List ℕ) → OnlyOne (λ (r : Bool). r ≡ isSettings item)
-is-settings-only item = equation-only _
-
-pub holds-queue-only : (item : List ℕ) → OnlyOne (λ (r : Bool). r ≡ holdsQueue item)
-holds-queue-only item = equation-only _
+pub item-of-only : (bytes : List ℕ) → OnlyOne (λ (r : Item). r ≡ itemOf bytes)
+item-of-only bytes = equation-only _
 
 pub item-length-only : (bytes : List ℕ) → OnlyOne (λ (r : ℕ). r ≡ itemLength bytes)
 item-length-only bytes = equation-only _

@@ -1,32 +1,25 @@
--- `trial_step::renew` meets its contract: the new node's parts are of `Node::new`'s promise, and the line is the answer
--- and then the newline. Assumes nothing.
+-- `trial_step::renew` meets its contract: the new node's parts are of `Node::new`'s promise. Assumes nothing.
 use Prim.Native.Nat.{ℕ}
-use mathlib.Core.Path.{_≡_, refl, ap, _∙_}
-use mathlib.Core.Bool.{true}
-use mathlib.Core.List.{List, _++_}
+use mathlib.Core.Path.{_≡_, ap, subst, _∙_}
+use mathlib.Core.List.{List}
 use denote.Ref.{now}
 use borrow.Author.Needs.{needs}
-use Rattle.text.specs.Text.{Puts}
-use Rattle.text.proofs.Laws.{then, named}
-use Rattle.text.specs.Lines.{newline, answerText}
+use Rattle.settings.specs.Node.{verdictNumber}
 use Rattle.node.specs.declared.NewNode.{NewNode}
 use Rattle.node.specs.New.{newOf}
-use Rattle.settings.specs.Node.{verdictNumber}
+use Rattle.bench_record.specs.declared.step.Step.{Step}
+use Rattle.trial_step.specs.TrialLine.{Numbered}
 use Rattle.trial_step.specs.Step.{renewedBy, Renewed}
 use Rattle.trial_step.proofs.renew.Statement.{statement}
 use Rattle.trial_step.proofs.renew.Tie as tie
 
 renewed :
-    (item : ℕ) (bytes : List ℕ) {number at newline-at end : ℕ} {before middle after : List ℕ} {r : NewNode} →
-    r ≡ renewedBy bytes → number ≡ verdictNumber (r .verdict) →
-    Puts (answerText item number) at before newline-at middle → Puts newline newline-at middle end after →
-    Renewed item bytes at before (record { node = r .node; at = end; «goes_on» = true }) after
-renewed item bytes e f p q =
-    record {
-      node = ap (λ n. n .node) e;
-      «goes_on» = refl;
-      line = named (ap (λ k. answerText item k ++ newline) (f ∙ ap (λ n. verdictNumber (n .verdict)) e)) (then p q);
-    }
+    (item : ℕ) (bytes : List ℕ) {number at : ℕ} {before after : List ℕ} {new : NewNode} {r : Step} →
+    new ≡ renewedBy bytes → number ≡ verdictNumber (new .verdict) →
+    Numbered (new .node) number item at before r after → Renewed item bytes at before r after
+renewed item bytes {number} {at} {before} {after} {new} {r} e f p =
+    subst (λ (n : NewNode). Numbered (n .node) (verdictNumber (n .verdict)) item at before r after) e
+    (subst (λ (k : ℕ). Numbered (new .node) k item at before r after) f p)
 
 settings-of-requires : tie.Need-settings-of-requires
 settings-of-requires c κs = search needs
@@ -37,27 +30,22 @@ new-requires c κs = search needs
 number-requires : tie.Need-number-requires
 number-requires c κs = search needs
 
-put-answer-requires : tie.Need-put-answer-requires
-put-answer-requires c κs = search needs
-
-put-byte-requires : tie.Need-put-byte-requires
-put-byte-requires c κs = search needs
+numbered-requires : tie.Need-numbered-requires
+numbered-requires c κs = search needs
 
 same-length : tie.Need-same-length
 same-length c = search needs
 
 returns : tie.Need-returns
 returns c =
-    let ended = c .before .before in
-    let answered = ended .before .before .before .before in
-    let told = answered .before in
-    let made = told .before .before .before in
+    let wrote = c .before .before in
+    let told = wrote .before .before in
+    let made = told .before .before in
     let a = made .before .before .before .before .args in
     renewed (a .item) (now (a .bytes))
     (made .new .ensures ∙ ap newOf (made .before .settings-of .ensures))
     (told .number .ensures)
-    (answered .put-answer .ensures)
-    (ended .put-byte .ensures)
+    (wrote .numbered .ensures)
 
 pub renew-spec : {M : Type 1} → statement M
 renew-spec =
@@ -66,7 +54,6 @@ renew-spec =
     settings-of-requires
     new-requires
     number-requires
-    put-answer-requires
-    put-byte-requires
+    numbered-requires
     same-length
     returns)

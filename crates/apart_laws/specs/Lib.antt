@@ -1,0 +1,2 @@
+-- The definitions of `apart_laws`.
+pub mod Apart

@@ -1,0 +1,2 @@
+-- The definitions of `lent_frame`.
+pub mod Lent
