@@ -26,7 +26,6 @@ use Rattle.domain.specs.declared.Domain.{Domain}
 use Rattle.slave_answer.specs.declared.FrameAnswer.the-variants.{Refused}
 use Rattle.admission.specs.declared.Needed.{Needed}
 use Rattle.admission.specs.declared.Needed.the-variants.{Master, Either}
-use Rattle.admission.specs.declared.Admission.{Admission}
 use Rattle.admission.specs.declared.Admission.the-variants.{Admitted, Refused as not-admitted}
 use Rattle.admission.specs.declared.frames.FrameAdmission.the-variants.{Refused as refused}
 use Rattle.admission.specs.Reading.{isGoodReading}
@@ -35,9 +34,6 @@ use Rattle.admission.specs.FrameAdmission.{readFor}
 use Rattle.call_frame.specs.declared.FrameCall.{FrameCall}
 use Rattle.call_frame.specs.FrameCall.{frameCallAs, frameCallOf}
 use Rattle.call_read.specs.declared.ReadAnswer.the-variants as unread
-use Rattle.call_read.specs.ReadCall.{readCallAs}
-use Rattle.call_set.specs.SetCall.{setCallAs}
-use Rattle.call_confirm.specs.ConfirmCall.{confirmCallAs, confirmBytes}
 use Rattle.master_set.specs.declared.SetAnswer.the-variants as unset
 use Rattle.master_confirm.specs.declared.ConfirmAnswer.the-variants as unconfirmed
 use Rattle.node_call.specs.declared.CallAnswer.the-variants as told

@@ -1,9 +1,6 @@
 -- Records kept apart are the node (paper 02, request 11). No contract cites this file.
---   number-stays         a call leaves the number of every record
---   reachable-one-each   a node that is reachable has one record per domain
---   pick-right           byte 2 of a frame, or the domain asked for, modulo 16: a place that is right for any call
---   kept-apart           calls on one record each, at places that are right: the same answers and contents as the node
---   kept-apart-new       the same of records that the product makes itself, one per domain, and the node of `new`
+--   number-stays   a call leaves the number of every record
+--   kept-apart     calls on one record each, at places that are right: the same answers and contents as the node
 -- Assumes nothing.
 use Prim.Native.Nat.{ℕ, _%_, _<_, _≤_}
 use mathlib.Core.Path.{_≡_, refl, sym, ap, subst, _∙_}
@@ -16,47 +13,18 @@ use lib.Dec.{ltb}
 use lib.ListN.{set as put}
 use lib.Seq.{set-getD}
 use borrow.Author.Tests.{ltb-true, ltb-false}
-use Rattle.clock.specs.declared.reading.VirtualLocalTime.{VirtualLocalTime}
 use Rattle.frame.specs.Values.{domainIn}
 use Rattle.frame_read.specs.declared.Read.{Read}
 use Rattle.frame_read.specs.declared.Read.the-variants.{Values, LengthNot8, NoSuchType}
 use Rattle.frame_read.specs.Read.{namedDomain, readOf}
 use Rattle.frame_read.proofs.Laws.{Names, read-names}
-use Rattle.settings.specs.declared.node_settings.NodeSettings.{NodeSettings}
-use Rattle.settings.specs.declared.node_settings.Verdict.the-variants.{Good as is-good}
-use Rattle.settings.specs.Node.{places, judgedOf}
+use Rattle.settings.specs.Node.{places}
 use Rattle.domain.specs.declared.Domain.{Domain}
 use Rattle.domain.specs.Records.{recordAt}
 use Rattle.node.specs.declared.Node.{Node}
-use Rattle.node.specs.New.{newOf}
 use Rattle.node_call.specs.Calls.{Call, nodeAfter}
-use Rattle.node_laws.specs.Reachable.{IsSettings, Reachable, new}
-use Rattle.node_laws.proofs.Reachable.{reachable-good}
 use Rattle.node_laws.proofs.Stays.{Kept, call-keeps}
-use Rattle.apart_laws.specs.Apart.{
-  OneCall,
-  frame,
-  read,
-  set,
-  confirm,
-  asCall,
-  Done,
-  doneOn,
-  Apart,
-  Placed,
-  doneIn,
-  apartAfter,
-  IsRightFor,
-  IsRight,
-  AllRight,
-  pickOf,
-  picked,
-  OneEach,
-  apartOf,
-  replyOf,
-  AsNode,
-  freshApart,
-}
+use Rattle.apart_laws.specs.Apart.{OneCall, frame, read, set, confirm, asCall, Done, Apart, Placed, doneIn, apartAfter, IsRightFor, IsRight, AllRight, pickOf, picked, OneEach, apartOf, replyOf, AsNode}
 use Rattle.apart_laws.proofs.Foreign.{NotFor, Foreign, leftBy, foreign-done}
 
 -- ---- one record per domain, whatever is called
@@ -85,30 +53,7 @@ pub number-stays :
 number-stays = call-keeps NumberStays number-kept
 
 one-each-after : (n : Node) (c : Call) → OneEach (n .domains) → OneEach (nodeAfter n c .domains)
-one-each-after n c one i below = number-stays n c i ∙ one i below
-
-pub reachable-one-each : (n : Node) → Reachable n → OneEach (n .domains)
-reachable-one-each n r i below = reachable-good n r .records i below .number
-
--- ---- a call at the place where the node makes it
-
-pick-below : (c : OneCall) → pickOf c < places
-pick-below (frame t bytes) = mod-lt (namedDomain bytes) (omega arith)
-pick-below (read domain t) = mod-lt domain (omega arith)
-pick-below (set domain t s ns) = mod-lt domain (omega arith)
-pick-below (confirm domain t counter out) = mod-lt domain (omega arith)
-
-read-right : (bytes : List ℕ) (r : Read) → Names bytes r → IsRightFor r (namedDomain bytes % places)
-read-right bytes (Values values) e = λ below. ap (λ (x : ℕ). x % places) (sym e) ∙ mod-eq-of-lt below
-read-right bytes LengthNot8 e = tt
-read-right bytes NoSuchType e = tt
-
-pub pick-right : (c : OneCall) → IsRight (picked c)
-pick-right (frame t bytes) = (pick-below (frame t bytes), read-right bytes (readOf bytes) (read-names bytes))
-pick-right (read domain t) = (pick-below (read domain t), λ below. mod-eq-of-lt below)
-pick-right (set domain t s ns) = (pick-below (set domain t s ns), λ below. mod-eq-of-lt below)
-pick-right (confirm domain t counter out) =
-    (pick-below (confirm domain t counter out), λ below. mod-eq-of-lt below)
+one-each-after n c one i below = rw (number-stays n c i) (one i below)
 
 -- ---- what one call at a place is to the node
 
@@ -208,11 +153,3 @@ kept-apart n one (p ∷ rest) right =
     let later = kept-apart (nodeAfter n c) (one-each-after n c one) rest (right .1) in
     let all = subst (λ (a : Apart). AsNode a (nodeAfter n c) rest) (sym (first .after)) later in
     record { contents = all .contents; answers = λ i. first .reply i ∷ all .answers i }
-
-pub kept-apart-new :
-    (s : NodeSettings) → IsSettings s → judgedOf s ≡ is-good → (ps : List Placed) → AllRight ps →
-    AsNode (freshApart (s .domains)) (newOf s .node) ps
-kept-apart-new s is good ps right =
-    let n = newOf s .node in
-    subst (λ (a : Apart). AsNode a n ps) (rw good)
-    (kept-apart n (reachable-one-each n (new s is)) ps right)

@@ -1,4 +1,4 @@
 -- The laws of `apart_laws`, each after what it stands on.
 pub mod Foreign
 pub mod KeptApart
-pub mod Witness
+pub mod Meet

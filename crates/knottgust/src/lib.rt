@@ -1,13 +1,23 @@
-// What a product uses, by one name: `use knottgust::on_frame;`. The calls of a node and what they answer; the settings
-// that a node is made of; readings and times; the refusal numbers. No function of its own: every name is passed on from
-// the crate that has it.
+// What a product uses, by one name: `use knottgust::on_frame;`. The calls of a node and what they answer; the same calls on
+// the record of one domain; the settings that a node is made of; readings and times; the refusal numbers. No function of
+// its own: every name is passed on from the crate that has it.
+pub use call_confirm::ConfirmCall;
+pub use call_confirm::confirm_call;
+pub use call_frame::FrameCall;
 pub use call_read::ReadAnswer;
 pub use call_read::Shown;
+pub use call_read::read_call;
+pub use call_set::SetCall;
+pub use call_set::set_call;
 pub use clock::GlobalTime;
 pub use clock::VirtualLocalTime;
+pub use domain::Domain;
 pub use frame::DataIds;
 pub use frame::Fup;
 pub use frame_check::CheckMode;
+pub use lent_frame::LentFrame;
+pub use lent_frame::frame_lent;
+pub use lent_frame::frame_on;
 pub use master_confirm::ConfirmAnswer;
 pub use master_set::SetAnswer;
 pub use node::CycleAnswer;

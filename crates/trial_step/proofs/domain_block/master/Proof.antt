@@ -1,7 +1,10 @@
 -- `trial_step::domain_block::master` meets its contract: each arm knows how it sends, and the callees ensure the
 -- fields.
 -- Assumes nothing.
+use mathlib.Core.Path.{ap, _∙_}
 use borrow.Author.Needs.{needs}
+use Rattle.settings.specs.Domain.{asMaster}
+use Rattle.trial_step.specs.DomainBlock.{confirmationTime}
 use Rattle.trial_step.proofs.domain_block.master.Statement.{statement}
 use Rattle.trial_step.proofs.domain_block.master.Tie as tie
 
@@ -61,16 +64,17 @@ returns-2 c =
     let ids = c .before .before .before in
     let long2 = ids .before .before in
     let known = long2 .before .before in
-    rw (
-      long2 .before .long-at .ensures,
-      ids .before .confirmation-time .ensures,
-      long2 .long-at2 .ensures,
-      ids .ids-at .ensures,
-      c .before .before .byte-at .ensures,
-      c .before .byte-at2 .ensures,
-      c .byte-at3 .ensures,
-      known .before .sends .given .1,
-    )
+    rw (known .before .sends .given .1)
+    (λ i.
+    asMaster (long2 .before .long-at .ensures i)
+    ((ids .before .confirmation-time .ensures ∙ ap confirmationTime (long2 .long-at2 .ensures)) i)
+    (known .before .sends .given .0 .0)
+    (record {
+      0 = c .before .before .byte-at .ensures i;
+      1 = c .before .byte-at2 .ensures i;
+      2 = c .byte-at3 .ensures i;
+    })
+    (ids .ids-at .ensures i))
 
 pub master-spec : {M : Type 1} → statement M
 master-spec =

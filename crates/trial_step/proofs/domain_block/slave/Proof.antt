@@ -1,6 +1,9 @@
 -- `trial_step::domain_block::slave` meets its contract: each arm knows the mode, and the callees ensure the fields.
 -- Assumes nothing.
+use mathlib.Core.Path.{ap, _∙_}
 use borrow.Author.Needs.{needs}
+use Rattle.settings.specs.Domain.{asSlave}
+use Rattle.trial_step.specs.DomainBlock.{clearCount}
 use Rattle.trial_step.proofs.domain_block.slave.Statement.{statement}
 use Rattle.trial_step.proofs.domain_block.slave.Tie as tie
 
@@ -74,18 +77,12 @@ returns-2 c =
     let long4 = byte .before .before in
     let long2 = long4 .before .before in
     let known = long2 .before .before in
-    rw (
-      long2 .before .long-at .ensures,
-      long2 .long-at2 .ensures,
-      long4 .before .long-at3 .ensures,
-      long4 .long-at4 .ensures,
-      byte .before .ids-at .ensures,
-      byte .byte-at .ensures,
-      byte2 .byte-at2 .ensures,
-      c .clear-count .ensures,
-      c .before .byte-at3 .ensures,
-      known .before .mode .given .1,
-    )
+    rw (known .before .mode .given .1)
+    (λ i.
+    asSlave (byte .byte-at .ensures i) (byte2 .byte-at2 .ensures i) (long2 .before .long-at .ensures i)
+    (long2 .long-at2 .ensures i) (long4 .before .long-at3 .ensures i) (long4 .long-at4 .ensures i)
+    ((c .clear-count .ensures ∙ ap clearCount (c .before .byte-at3 .ensures)) i) (known .before .mode .given .0 .0)
+    (byte .before .ids-at .ensures i))
 
 pub slave-spec : {M : Type 1} → statement M
 slave-spec =

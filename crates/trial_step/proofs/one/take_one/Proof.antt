@@ -53,9 +53,8 @@ array-share-prefix-frame c = search needs
 slice-aggregate-frame-at : tie.Need-slice-aggregate-frame-at
 slice-aggregate-frame-at c =
     let made = c .before in
-    let code = made .before .before .byte-at .result in
     let whole : length (made .payload .result) ≡ 8 = ap length (made .payload .ensures) in
-    sym (length-take-le (8 - code / 32) (made .payload .result) (omega arith))
+    sym (length-take-le _ (made .payload .result) (omega arith))
 
 frame-at-requires : tie.Need-frame-at-requires
 frame-at-requires c κs = search needs
