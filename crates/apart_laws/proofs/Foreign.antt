@@ -122,7 +122,8 @@ foreignReply kept (confirm domain t counter out) =
 abbrev pub leftBy : Domain → (kept : VirtualLocalTime) → OneCall → Done
 leftBy d kept c = record { reply = foreignReply kept c; domain = d; kept = kept }
 
-pub foreign-done : (d : Domain) (kept : VirtualLocalTime) (c : OneCall) → Foreign c d → doneOn d kept c ≡ leftBy d kept c
+pub foreign-done :
+    (d : Domain) (kept : VirtualLocalTime) (c : OneCall) → Foreign c d → doneOn d kept c ≡ leftBy d kept c
 foreign-done d kept (frame t bytes) n = rw (frame-refused d kept t bytes (isGoodReading kept t) (readOf bytes) n)
 foreign-done d kept (read domain t) n = rw (not-for kept t (d .number) (d .settings .role) domain Either n)
 foreign-done d kept (set domain t s ns) n = rw (not-for kept t (d .number) (d .settings .role) domain Master n)

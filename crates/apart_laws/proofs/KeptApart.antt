@@ -24,7 +24,28 @@ use Rattle.domain.specs.Records.{recordAt}
 use Rattle.node.specs.declared.Node.{Node}
 use Rattle.node_call.specs.Calls.{Call, nodeAfter}
 use Rattle.node_laws.proofs.Stays.{Kept, call-keeps}
-use Rattle.apart_laws.specs.Apart.{OneCall, frame, read, set, confirm, asCall, Done, Apart, Placed, doneIn, apartAfter, IsRightFor, IsRight, AllRight, pickOf, picked, OneEach, apartOf, replyOf, AsNode}
+use Rattle.apart_laws.specs.Apart.{
+  OneCall,
+  frame,
+  read,
+  set,
+  confirm,
+  asCall,
+  Done,
+  Apart,
+  Placed,
+  doneIn,
+  apartAfter,
+  IsRightFor,
+  IsRight,
+  AllRight,
+  pickOf,
+  picked,
+  OneEach,
+  apartOf,
+  replyOf,
+  AsNode,
+}
 use Rattle.apart_laws.proofs.Foreign.{NotFor, Foreign, leftBy, foreign-done}
 
 -- ---- one record per domain, whatever is called
@@ -141,7 +162,8 @@ module _ (n : Node) (one : OneEach (n .domains)) (i : ℕ) (below : i < places) 
       }
 
 one-call : (n : Node) → OneEach (n .domains) → (p : Placed) → IsRight p → Same n p
-one-call n one p right = placed-same n one (p .place) (right .0) (p .call) (alike n one (p .place) (right .0) (p .call) right)
+one-call n one p right =
+    placed-same n one (p .place) (right .0) (p .call) (alike n one (p .place) (right .0) (p .call) right)
 
 -- ---- any calls
 

@@ -3,7 +3,7 @@
 --   pick-right           byte 2 of a frame, or the domain asked for, modulo 16: a place that is right for any call
 --   picked-apart         so that any calls at these places are to the records what they are to the node
 --   kept-apart-new       the same of records that the product makes itself, one per domain, and the node of `new`
---   calls-met            calls of the bench, junk and a domain above 15 on records of others among them, and their numbers
+--   calls-met            calls of the bench, with junk and a domain above 15 on other records, and their numbers
 --   not-met              P1 on another record than its own is refused: the place matters
 -- Assumes nothing.
 use Prim.Native.Nat.{ℕ, _%_, _<_}

@@ -16,6 +16,7 @@ pub struct LentFrame {
     pub kept: VirtualLocalTime,
 }
 
+// Where the call is refused the record is as it was, but under 6 and 15, as a frame call has it.
 pub fn frame_on(
     domain: &mut Domain,
     kept: VirtualLocalTime,

@@ -49,6 +49,7 @@ pub fn trial_step(node: Node, item: u64, bytes: &[u8], out: &mut [u8], at: usize
     }
 }
 
+// Any other record: the call that it asks for, or a bad one.
 fn take_record(node: Node, item: u64, bytes: &[u8], out: &mut [u8], at: usize) -> Step
     ensures { λ r. ⌜ RecordStepped (askedBy (now (bytes .entry))) (trialLine item) (givenFrame (now (bytes .entry)))
         (lentBuffer (now (bytes .entry))) node item at (now (out .entry)) r (now (out .exit)) ⌝ }
