@@ -1,6 +1,6 @@
 // What a product uses, by one name: `use knottgust::on_frame;`. The calls of a node and what they answer; calls on the
-// record of one domain; the settings that a node is made of; readings and times; the refusal numbers. No function of its
-// own: every name is passed on from the crate that has it.
+// record of one domain; the settings that a node is made of; readings and times; the refusal numbers. No function of
+// its own: every name is passed on from the crate that has it.
 pub use call_confirm::ConfirmCall;
 pub use call_confirm::confirm_call;
 pub use call_frame::FrameCall;
