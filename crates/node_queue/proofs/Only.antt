@@ -9,7 +9,7 @@ use Rattle.promise.proofs.Laws.{equation-only}
 use Rattle.node.specs.declared.Node.{Node}
 use Rattle.node_queue.specs.declared.QueueAnswer.{QueueAnswer}
 use Rattle.node_queue.specs.declared.NodeQueue.{NodeQueue}
-use Rattle.node_queue.specs.Queue.{queueNumber, queueNode, queueBytes, QueuedIn}
+use Rattle.node_queue.specs.Queue.{queueAnswer, queueNumber, queueNode, queueBytes, QueuedIn}
 
 pub on-queue-only :
     (n : Node) (ts fs before : List ℕ) →
@@ -22,3 +22,6 @@ on-queue-only n ts fs before x y p q =
 
 pub number-only : (answer : QueueAnswer) → OnlyOne (λ (r : ℕ). r ≡ queueNumber answer)
 number-only answer = equation-only _
+
+pub judge-only : (readings bytes room : ℕ) → OnlyOne (λ (r : QueueAnswer). r ≡ queueAnswer readings bytes room)
+judge-only readings bytes room = equation-only _

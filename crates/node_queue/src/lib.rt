@@ -72,7 +72,7 @@ pub fn on_queue(mut node: Node, readings: &[u64], frames: &[u8], answers: &mut [
 }
 
 // By how many readings there are, how many bytes of frames, and how much room for the numbers.
-fn judge(readings: usize, bytes: usize, room: usize) -> QueueAnswer
+pub fn judge(readings: usize, bytes: usize, room: usize) -> QueueAnswer
     ensures { λ r. ⌜ r ≡ queueAnswer readings bytes room ⌝ }
 {
     if room < readings {

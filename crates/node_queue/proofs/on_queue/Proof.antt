@@ -3,14 +3,10 @@
 -- Assumes nothing.
 use Prim.Native.Nat.{ℕ, _+_, _-_, _*_, _≤_}
 use mathlib.Core.Path.{_≡_, refl, sym, ap, _∙_}
-use mathlib.Core.Bool.{true}
 use native.Mathlib.Omega.{arith}
-use lib.Dec.{leb, eqb}
 use lib.ListN.{length, getD, take, drop, length-set}
 use denote.Ref.{now}
 use borrow.Author.Needs.{needs}
-use borrow.Author.Tests.{leb-true, eqb-true}
-use Rattle.promise.proofs.Tests.{both, either-told}
 use Rattle.promise.proofs.Lists.{getD-any}
 use Rattle.settings.specs.Node.{places}
 use Rattle.slave_answer.specs.Answer.{frameNumber}
@@ -18,30 +14,12 @@ use Rattle.node.specs.declared.frames.NodeFrame.{NodeFrame}
 use Rattle.node.specs.Frame.{nodeFrameOf}
 use Rattle.node.proofs.Sixteen.{sixteen}
 use Rattle.node.proofs.frames.Stored.{frame-stored}
-use Rattle.node_queue.specs.declared.QueueAnswer.{QueueAnswer}
 use Rattle.node_queue.specs.declared.QueueAnswer.the-variants.{Taken}
-use Rattle.node_queue.specs.Queue.{isQueue, queueAnswer, queueNumber, queueNode, queueBytes}
+use Rattle.node_queue.specs.Queue.{queueNode, queueBytes}
+use Rattle.node_queue.proofs.Taken.{is-taken}
 use Rattle.node_queue.proofs.Rest.{Rest, onward, at-end}
 use Rattle.node_queue.proofs.on_queue.Statement.{statement}
 use Rattle.node_queue.proofs.on_queue.Tie as tie
-
--- ---- what is taken has room for its numbers, at most 32 readings, and eight bytes for each
-is-queue : (readings bytes : ℕ) → isQueue readings bytes ≡ true → (readings ≤ 32) × (bytes ≡ 8 * readings)
-is-queue readings bytes e =
-    let told = both (leb readings 32) (eqb bytes (8 * readings)) e in
-    (leb-true readings 32 (told .0), eqb-true bytes (8 * readings) (told .1))
-
-abbrev Fits : (readings bytes room : ℕ) → Type 0
-Fits readings bytes room = (readings ≤ room) × (readings ≤ 32) × (bytes ≡ 8 * readings)
-
-is-taken : (readings bytes room : ℕ) → queueAnswer readings bytes room ≡ Taken → Fits readings bytes room
-is-taken readings bytes room =
-    let By : QueueAnswer → Type 0 = λ a. a ≡ Taken → Fits readings bytes room in
-    either-told By (leb readings room)
-    (λ h. either-told By (isQueue readings bytes)
-    (λ q e. (leb-true readings room h, is-queue readings bytes q .0, is-queue readings bytes q .1))
-    (λ q e. absurd (omega (arith, ap queueNumber e))))
-    (λ h e. absurd (omega (arith, ap queueNumber e)))
 
 abbrev Inv-loop : tie.InvT-loop
 Inv-loop readings frames answers₀ node₀ i₀ answers node i =

@@ -1,0 +1,2 @@
+-- The laws of `words_call`.
+pub mod Only

@@ -1,0 +1,2 @@
+-- The definitions of `words_call`.
+pub mod Calls

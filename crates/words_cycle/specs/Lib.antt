@@ -1,0 +1,2 @@
+-- The definitions of `words_cycle`.
+pub mod Cycle

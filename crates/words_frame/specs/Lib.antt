@@ -1,0 +1,3 @@
+-- The definitions of `words_frame`, in the order to read them.
+pub mod Frame
+pub mod Queue

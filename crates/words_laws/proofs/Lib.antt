@@ -1,0 +1,9 @@
+-- The laws of `words_laws`, each after what it stands on.
+pub mod Parts
+pub mod Puts
+pub mod Back
+pub mod OfNode
+pub mod Fits
+pub mod FrameFits
+pub mod Stored
+pub mod Calls

@@ -1,0 +1,2 @@
+-- The definitions of `words_laws`.
+pub mod Run
