@@ -33,14 +33,14 @@ pub goes-turn :
 unfolding goes
 goes-turn k at sent most t ds next = refl
 
-pasted-turn :
+pub pasted-turn :
     (a : SendAnswer) (ids : DataIds) (sent : ℕ) (frames : List (List ℕ)) (out : List ℕ) →
     pasted sent (framesBy a ids ++ frames) out
     ≡ pasted (sentAfter a sent) frames (pasted sent (framesBy a ids) out)
 pasted-turn (Sent s) ids sent frames out = refl
 pasted-turn NotDue ids sent frames out = refl
 
-counted-turn :
+pub counted-turn :
     (a : SendAnswer) (ids : DataIds) (sent : ℕ) (frames : List (List ℕ)) →
     sentAfter a sent + length frames ≡ sent + length (framesBy a ids ++ frames)
 counted-turn (Sent s) ids sent frames = omega arith

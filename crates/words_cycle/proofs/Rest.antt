@@ -5,35 +5,20 @@
 -- Assumes nothing.
 use Prim.Native.Nat.{ℕ, zero, suc, _+_}
 use mathlib.Core.Path.{_≡_, refl, sym, ap, _∙_}
-use mathlib.Core.List.{List, _++_}
+use mathlib.Core.List.{List}
 use native.Mathlib.Nat.{add-zero}
-use native.Mathlib.Omega.{arith}
 use lib.Dec.{ltb}
 use lib.ListN.{length}
 use Rattle.clock.specs.declared.reading.VirtualLocalTime.{VirtualLocalTime}
 use Rattle.frame.specs.declared.data_ids.DataIds.{DataIds}
 use Rattle.settings.specs.Node.{places}
-use Rattle.master_send.specs.declared.SendAnswer.{SendAnswer}
-use Rattle.master_send.specs.declared.SendAnswer.the-variants.{Sent, NotDue}
 use Rattle.master_send.specs.declared.SendStep.{SendStep}
 use Rattle.round.specs.Turn.{turnOf, nextPlace, nextAfter}
 use Rattle.round.specs.Round.{framesBy, sentAfter, pasted}
 use Rattle.node_words.specs.Words.{recordOf}
+use Rattle.round.proofs.Rest.{pasted-turn, counted-turn}
 use Rattle.words_cycle.specs.Cycle.{turnWords, Went, before, goes, wentBy, GoneIn}
 use Rattle.words_cycle.proofs.Turned.{One}
-
-pasted-turn :
-    (a : SendAnswer) (ids : DataIds) (sent : ℕ) (frames : List (List ℕ)) (out : List ℕ) →
-    pasted sent (framesBy a ids ++ frames) out
-    ≡ pasted (sentAfter a sent) frames (pasted sent (framesBy a ids) out)
-pasted-turn (Sent s) ids sent frames out = refl
-pasted-turn NotDue ids sent frames out = refl
-
-counted-turn :
-    (a : SendAnswer) (ids : DataIds) (sent : ℕ) (frames : List (List ℕ)) →
-    sentAfter a sent + length frames ≡ sent + length (framesBy a ids ++ frames)
-counted-turn (Sent s) ids sent frames = omega arith
-counted-turn NotDue ids sent frames = refl
 
 -- ---- what is left decides
 pub record Rest

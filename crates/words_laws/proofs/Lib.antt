@@ -7,3 +7,9 @@ pub mod Fits
 pub mod FrameFits
 pub mod Stored
 pub mod Calls
+pub mod Queue
+pub mod Cycle
+pub mod Run
+pub mod CallsOfNode
+pub mod CycleOfNode
+pub mod RunOfNode
