@@ -1,6 +1,6 @@
-// The calls of a node for C: include/knottgust.h declares them, and docs/BOARD.md says what they cost. The product lends
-// the node as words; each call is the one of its name on them, and promises the same. An archive for this machine, and
-// an object for a controller, are made of this crate.
+// The calls of a node for C: include/knottgust.h declares them, and docs/BOARD.md says what they cost. The product
+// lends the node as words; each call is the one of its name on them, and promises the same. An archive for this
+// machine, and an object for a controller, are made of this crate.
 use node_words::NODE_WORDS;
 use words_call::SHOWN_WORDS;
 use words_call::confirm_in;

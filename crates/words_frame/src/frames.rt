@@ -11,7 +11,7 @@ ghost use mathlib.Core.List.{_∷_, []};
 ghost use lib.ListN.{length};
 ghost use Rattle.words_frame.specs.Frame.{isStored, TakenIn, FramedIn, told};
 
-// A frame of any length at t: 1, 2, 3, 4, 5; then 6, 15, or 7, 8, 9. What was taken is told in `taken`: what it was, and D.
+// A frame of any length at t: 1, 2, 3, 4, 5; then 6, 15, or 7, 8, 9. `taken` tells what was taken, and D.
 pub fn frame_in(node: &mut [u64; NODE_WORDS], t: u64, bytes: &[u8], taken: &mut [i64; 2]) -> u8
     ensures { λ r. ⌜ FramedIn (now (node .entry)) t (now (bytes .entry)) (now (taken .entry)) r (now (node .exit))
         (now (taken .exit)) ⌝ }

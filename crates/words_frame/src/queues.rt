@@ -6,8 +6,8 @@ use node_words::NODE_WORDS;
 ghost use mathlib.Core.Path.{_≡_};
 ghost use Rattle.words_frame.specs.Queue.{QueuedIn};
 
-// Frames of eight bytes one after another, each at its reading; the number of each goes to its place in `answers`: 12, 2.
-// Bytes beyond them stay.
+// Frames of eight bytes one after another, each at its reading; the number of each goes to its place in `answers`: 12,
+// 2. Bytes beyond them stay.
 pub fn queue_in(
     node: &mut [u64; NODE_WORDS],
     readings: &[u64],

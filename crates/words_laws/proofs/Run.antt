@@ -103,11 +103,14 @@ pub refused-same : (words : List ℕ) (c : Call) → StateStays (callNumber (ans
 refused-same words (frame t bytes) stays = frame-refused words (t .0) bytes stays
 refused-same words (read domain t) stays = refl
 refused-same words (set domain t s ns) stays = set-refused words domain (t .0) s ns (stays .0)
-refused-same words (cycle t out) stays = cycle-refused words (t .0) (length out) (λ e. stays .0 (sym (cycle-number words (t .0) (length out)) ∙ e))
+refused-same words (cycle t out) stays =
+    cycle-refused words (t .0) (length out) (λ e. stays .0 (sym (cycle-number words (t .0) (length out)) ∙ e))
 refused-same words (confirm domain t counter out) stays = confirm-refused words domain (t .0) counter out (stays .0)
 
 -- ---- Calls one after another.
-pub same-answer : (words : List ℕ) → length words ≡ nodeSize → (c : Call) → IsCall c → answerOn words c ≡ answerTo (nodeOf words) c
+pub same-answer :
+    (words : List ℕ) → length words ≡ nodeSize → (c : Call) → IsCall c →
+    answerOn words c ≡ answerTo (nodeOf words) c
 same-answer words size c is =
     let s = same words size c is in
     λ i. toldBy (s .answer i) (s .bytes (lentTo c) i)
@@ -119,7 +122,8 @@ same-answers words size [] are = refl
 same-answers words size (c ∷ rest) are =
     let s = same words size c (are .0) in
     let here = same-answer words size c (are .0) in
-    let then = same-answers (wordsAfter words c) (s .size) rest (are .1) ∙ ap (λ (n : Node). answersTo n rest) (s .node) in
+    let then =
+    same-answers (wordsAfter words c) (s .size) rest (are .1) ∙ ap (λ (n : Node). answersTo n rest) (s .node) in
     λ i. here i ∷ then i
 
 pub same-node :

@@ -38,7 +38,8 @@ of-node n f (confirm domain t counter out) is = confirm-of-node n f domain (t .0
 fits-after : (n : Node) → NodeFits n → (c : Call) → IsCall c → NodeFits (nodeAfter n c)
 fits-after n f c is =
     let s = same (nodeWords n) (node-size n (f .sixteen)) c is in
-    subst NodeFits (s .node ∙ ap (λ (m : Node). nodeAfter m c) (node-back n f)) (words-node-fits (wordsAfter (nodeWords n) c))
+    subst NodeFits (s .node ∙ ap (λ (m : Node). nodeAfter m c) (node-back n f))
+    (words-node-fits (wordsAfter (nodeWords n) c))
 
 pub of-node-all :
     (n : Node) → NodeFits n → (cs : List Call) → AreCalls cs →

@@ -1,4 +1,5 @@
--- `words_frame::frames::take_in` meets its contract: what the call of the record gives is put into the words, under 0, 6 and 15.
+-- `words_frame::frames::take_in` meets its contract: what the call of the record gives is put into the words,
+-- under 0, 6 and 15.
 -- Assumes nothing.
 use mathlib.Core.Path.{_≡_, sym, ap, _∙_}
 use mathlib.Core.Bool.{true, false}
