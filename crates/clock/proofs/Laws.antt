@@ -23,7 +23,17 @@ use Rattle.clock.specs.declared.reading.VirtualLocalTime.{VirtualLocalTi
 use Rattle.clock.specs.declared.time.GlobalTime.{GlobalTime}
 use Rattle.clock.specs.declared.base.TimeBase.{TimeBase}
 use Rattle.clock.specs.Reading.{spanOf}
-use Rattle.clock.specs.Time.{nanosecondsOf, isTime, isWithin, Within, IsReceived, IsRead, carried, advanced}
+use Rattle.clock.specs.Time.{
+  timeOf,
+  nanosecondsOf,
+  isTime,
+  isWithin,
+  Within,
+  IsReceived,
+  IsRead,
+  carried,
+  advanced,
+}
 use Rattle.clock.specs.Base.{timeAt}
 
 -- ---- the carry, over the width w of the seconds
@@ -50,11 +60,8 @@ advance-exact g span h = omega (arith, carry-exact 64 (g .0) (g .1 + span) h)
 pub advance-good : (g : GlobalTime) (span : ℕ) → advanced g span .1 ≤ 999999999
 advance-good g span = omega arith
 
-abbrev time : ℕ → ℕ → GlobalTime
-time s n = record { 0 = s; 1 = n }
-
 pub advance-add : (g : GlobalTime) (a b : ℕ) → advanced (advanced g a) b ≡ advanced g (a + b)
-advance-add g a b = ap₂ time (omega arith) (omega arith)
+advance-add g a b = ap₂ timeOf (omega arith) (omega arith)
 
 -- ---- a base's time
 

@@ -14,6 +14,10 @@ isNanoseconds n = leb n mostNanoseconds
 abbrev pub isTime : GlobalTime → Bool
 isTime g = isNanoseconds (g .1)
 
+-- a time by its parts
+abbrev pub timeOf : (seconds nanoseconds : ℕ) → GlobalTime
+timeOf s n = record { 0 = s; 1 = n }
+
 -- all of a time in nanoseconds
 abbrev pub nanosecondsOf : GlobalTime → ℕ
 nanosecondsOf g = g .0 * 1000000000 + g .1

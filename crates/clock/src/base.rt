@@ -2,7 +2,7 @@
 use crate::reading::VirtualLocalTime;
 use crate::time::GlobalTime;
 ghost use mathlib.Core.Path.{_≡_};
-ghost use Rattle.clock.specs.Base.{baseOf, timeAt};
+ghost use Rattle.clock.specs.Base.{baseOf, timeAt, PartsOf};
 
 // A global time and the reading at which it was true.
 pub struct TimeBase {
@@ -14,6 +14,12 @@ pub struct TimeBase {
 pub enum Held {
     Unset,
     Set(TimeBase),
+}
+
+// A time in parts: seconds, and nanoseconds that are not carried into them.
+pub(crate) struct Parts {
+    pub(crate) seconds: u64,
+    pub(crate) nanoseconds: u64,
 }
 
 impl TimeBase {
@@ -31,5 +37,28 @@ impl TimeBase {
         let time = self.time;
         let at = self.at;
         time.advance(t.since(at))
+    }
+
+    // The same in parts. Nothing is divided where what has passed is within the range of readings, and the seconds are
+    // below 2^63, so that no carry meets their end.
+    pub(crate) fn parts_at(self, t: VirtualLocalTime) -> Parts
+        ensures { λ r. ⌜ PartsOf (timeAt self t) r ⌝ }
+    {
+        let time = self.time;
+        let at = self.at;
+        let span = t.since(at);
+        if span <= VirtualLocalTime::MAX.0 {
+            if time.0 < 0x8000_0000_0000_0000 {
+                return Parts {
+                    seconds: time.0,
+                    nanoseconds: (time.1 as u64) + span,
+                };
+            }
+        }
+        let later = time.advance(span);
+        Parts {
+            seconds: later.0,
+            nanoseconds: later.1 as u64,
+        }
     }
 }

@@ -16,6 +16,7 @@ pub use difference::TimeOrder;
 pub use difference::exceeds;
 pub use difference::magnitude;
 pub use difference::minus;
+pub use difference::minus_at;
 pub use difference::minus_exceeds;
 pub use difference::order;
 pub use reading::VirtualLocalTime;

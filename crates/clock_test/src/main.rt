@@ -14,6 +14,9 @@ fn main() {
     spans();
     times();
     differences();
+    spans_passed();
+    ends_later();
+    seconds_carried();
     thresholds();
 }
 
@@ -141,6 +144,84 @@ fn difference(s: u64, n: u32, r: u64, m: u32) {
         TimeOrder::Later => word(b" later"),
     }
     signed(clock::minus(a, b));
+    word(b"\n");
+}
+
+// 10^18, the range of readings, and one more; the last of 63 bits, and one more.
+const RANGE: u64 = 1_000_000_000_000_000_000;
+
+const PAST_RANGE: u64 = 1_000_000_000_000_000_001;
+
+const BELOW_HALF: u64 = 9_223_372_036_854_775_807;
+
+const HALF: u64 = 9_223_372_036_854_775_808;
+
+// D against a base's time at a reading: what has passed is none, some, 10^18 ns and more, and the base is the later.
+fn spans_passed() {
+    difference_at(5, 7, 3, 9, 100, 100);
+    difference_at(3601, 10_000_100, 3600, 100, 5_000_000_000, 6_010_000_000);
+    difference_at(3600, 0, 3600, 100, 5_000_000_000, 6_010_000_000);
+    difference_at(7, 5, 7, 5, 100, 99);
+    difference_at(1_000_000_000, 0, 0, 0, 0, RANGE);
+    difference_at(999_999_999, 999_999_999, 0, 0, 0, RANGE);
+    difference_at(1_000_000_000, 0, 0, 0, 0, PAST_RANGE);
+    difference_at(1_000_000_000, 1, 0, 0, 0, PAST_RANGE);
+    difference_at(1_000_000_000, 0, 0, 0, 1, PAST_RANGE);
+    difference_at(0, u32::MAX, 0, u32::MAX, 0, RANGE);
+    difference_at(0, 0, 0, u32::MAX, 0, u64::MAX);
+}
+
+// Both ends of D a span later, and 11 * 10^9 s between the two times.
+fn ends_later() {
+    difference_at(10_223_372_036, 854_775_806, 0, 0, 0, RANGE);
+    difference_at(10_223_372_036, 854_775_807, 0, 0, 0, RANGE);
+    difference_at(10_223_372_036, 854_775_808, 0, 0, 0, RANGE);
+    difference_at(0, 0, 8_223_372_036, 854_775_807, 0, RANGE);
+    difference_at(0, 0, 8_223_372_036, 854_775_808, 0, RANGE);
+    difference_at(0, 0, 8_223_372_036, 854_775_809, 0, RANGE);
+    difference_at(10_223_372_036, 854_775_807, 0, 0, 0, PAST_RANGE);
+    difference_at(10_223_372_036, 854_775_808, 0, 0, 0, PAST_RANGE);
+    difference_at(10_223_372_036, 854_775_809, 0, 0, 0, PAST_RANGE);
+    difference_at(0, 0, 9_223_372_036, 854_775_806, 0, 1);
+    difference_at(0, 0, 9_223_372_036, 854_775_807, 0, 1);
+    difference_at(0, 0, 9_223_372_036, 854_775_808, 0, 1);
+    difference_at(10_000_000_001, 0, 0, 0, 0, RANGE);
+    difference_at(10_223_372_041, 0, 0, u32::MAX, 0, RANGE);
+    difference_at(10_223_372_042, 0, 0, u32::MAX, 0, RANGE);
+    difference_at(10_999_999_999, 0, 0, u32::MAX, 0, RANGE);
+    difference_at(11_000_000_000, 0, 0, u32::MAX, 0, RANGE);
+    difference_at(11_000_000_001, 0, 0, u32::MAX, 0, RANGE);
+    difference_at(0, u32::MAX, 10_999_999_999, 0, 0, RANGE);
+    difference_at(0, u32::MAX, 11_000_000_000, 0, 0, RANGE);
+    difference_at(0, u32::MAX, 11_000_000_001, 0, 0, RANGE);
+}
+
+// The base's seconds at 2^63 and at the last of 64 bits, where they are held.
+fn seconds_carried() {
+    difference_at(HALF, 0, BELOW_HALF, 999_999_999, 0, 1);
+    difference_at(9_223_372_037_854_775_807, 5, BELOW_HALF, 0, 0, RANGE);
+    difference_at(9_223_372_036_854_775_809, 0, HALF, 999_999_999, 0, 1);
+    difference_at(9_223_372_037_854_775_808, 5, HALF, 0, 0, RANGE);
+    difference_at(u64::MAX, 0, 18_446_744_072_709_551_615, 0, 0, RANGE);
+    difference_at(u64::MAX, 0, u64::MAX, 0, 0, 999_999_999);
+    difference_at(u64::MAX, 0, u64::MAX, 0, 0, 1_000_000_000);
+    difference_at(u64::MAX, 0, u64::MAX, u32::MAX, 0, RANGE);
+    difference_at(u64::MAX, u32::MAX, u64::MAX, u32::MAX, 0, u64::MAX);
+    difference_at(u64::MAX, u32::MAX, 0, 0, 0, 0);
+    difference_at(0, 0, u64::MAX, u32::MAX, 0, u64::MAX);
+}
+
+fn difference_at(s: u64, n: u32, r: u64, m: u32, at: u64, t: u64) {
+    let base = TimeBase::new(GlobalTime(r, m), VirtualLocalTime(at));
+    word(b"difference_at");
+    number(s);
+    number(n as u64);
+    number(r);
+    number(m as u64);
+    number(at);
+    number(t);
+    word(b" is");
+    signed(clock::minus_at(GlobalTime(s, n), base, VirtualLocalTime(t)));
     word(b"\n");
 }
 

@@ -37,7 +37,7 @@ pub fn update_by(future: u64, past: u64, count: u8, held: Leap, old: Held, new: 
         Held::Set(base) => {
             let time = new.time;
             let at = new.at;
-            let d = clock::minus(time, base.time_at(at));
+            let d = clock::minus_at(time, base, at);
             Update {
                 answer: FrameAnswer::Updated(d),
                 leap: leap_after(future, past, count, held, d),

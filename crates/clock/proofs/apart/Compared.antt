@@ -1,30 +1,17 @@
--- What `compare` tells of two times, for the proofs of `compare`, `order` and `minus`.
+-- What `compare` tells of two times, for the proofs of `compare_parts`, `order` and `minus_parts`.
 --   ahead, behind            which case of `apartOf` holds
 --   told-ahead, told-behind  what that case says of the two times
---   near                     `nearSpan` is exact, or so far that every span is held
 -- Assumes nothing.
-use Prim.Native.Nat.{ℕ, suc, _+_, _-_, _*_, _^_, _≤_, _<_}
+use Prim.Native.Nat.{ℕ, suc, _-_, _≤_, _<_}
 use mathlib.Core.Path.{_≡_, refl, ap}
 use mathlib.Core.Bool.{Bool, true, false, cond}
-use mathlib.Core.Logic.{_⊎_, inl, inr}
 use native.Mathlib.Omega.{arith}
-use lib.Dec.{leb, ltb}
-use borrow.Author.Tests.{le-ltb, lt-ltb, leb-false, ltb-true, ltb-false}
+use lib.Dec.{ltb}
+use borrow.Author.Tests.{le-ltb, lt-ltb, ltb-true, ltb-false}
 use Rattle.clock.specs.declared.time.GlobalTime.{GlobalTime}
 use Rattle.clock.specs.declared.apart.Apart.the-variants.{Ahead, Behind}
-use Rattle.clock.specs.Apart.{apartOf, heldSpan, nearSpan}
+use Rattle.clock.specs.Apart.{apartOf, heldSpan}
 use Rattle.clock.specs.Time.{nanosecondsOf}
-
-pub near :
-    (s n k : ℕ) → k ≡ nearSpan s n →
-    (k ≡ s * 1000000000 + n) ⊎ ((10000000000 < s) × (k ≡ 2 ^ 64 - 1))
-near s n k = go (leb s 10000000000) refl
-  where
-    go :
-        (β : Bool) → leb s 10000000000 ≡ β → k ≡ cond β (s * 1000000000 + n) (2 ^ 64 - 1) →
-        (k ≡ s * 1000000000 + n) ⊎ ((10000000000 < s) × (k ≡ 2 ^ 64 - 1))
-    go true w e = inl e
-    go false w e = inr (leb-false s 10000000000 w, e)
 
 pub record AheadBy (a b : GlobalTime) (m : ℕ) : Type 0 where
   pub from : nanosecondsOf b ≤ nanosecondsOf a

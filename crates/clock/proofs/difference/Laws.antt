@@ -1,4 +1,5 @@
 -- Laws of the difference. No contract cites this file.
+--   difference-alike   D is the same against times of as many nanoseconds
 --   difference-exact   D is the difference itself where 64 bits hold it
 --   difference-read    as they do for any two times that can be read
 -- Assumes nothing.
@@ -11,6 +12,10 @@ use lib.IntN.{pos, negsuc, subℕ}
 use Rattle.clock.specs.declared.time.GlobalTime.{GlobalTime}
 use Rattle.clock.specs.Time.{nanosecondsOf, IsRead}
 use Rattle.clock.specs.Difference.{held, differenceOf}
+
+pub difference-alike :
+    (a b c : GlobalTime) → nanosecondsOf b ≡ nanosecondsOf c → differenceOf a b ≡ differenceOf a c
+difference-alike a b c e = ap (λ (n : ℕ). held (subℕ (nanosecondsOf a) n)) e
 
 pub difference-exact :
     (a b : GlobalTime) →

@@ -7,8 +7,11 @@ use mathlib.Core.Bool.{Bool}
 use lib.IntN.{ℤ, natAbs}
 use Rattle.promise.specs.Only.{OnlyOne}
 use Rattle.promise.proofs.Laws.{equation-only}
+use Rattle.clock.specs.declared.reading.VirtualLocalTime.{VirtualLocalTime}
 use Rattle.clock.specs.declared.time.GlobalTime.{GlobalTime}
+use Rattle.clock.specs.declared.base.TimeBase.{TimeBase}
 use Rattle.clock.specs.declared.difference.TimeOrder.{TimeOrder}
+use Rattle.clock.specs.Base.{timeAt}
 use Rattle.clock.specs.Difference.{orderOf, differenceOf, exceeds, minusExceeds}
 
 pub order-only : (a b : GlobalTime) → OnlyOne (λ (r : TimeOrder). r ≡ orderOf a b)
@@ -16,6 +19,10 @@ order-only a b = equation-only _
 
 pub minus-only : (a b : GlobalTime) → OnlyOne (λ (r : ℤ). r ≡ differenceOf a b)
 minus-only a b = equation-only _
+
+pub minus-at-only :
+    (a : GlobalTime) (b : TimeBase) (t : VirtualLocalTime) → OnlyOne (λ (r : ℤ). r ≡ differenceOf a (timeAt b t))
+minus-at-only a b t = equation-only _
 
 pub magnitude-only : (d : ℤ) → OnlyOne (λ (r : ℕ). r ≡ natAbs d)
 magnitude-only d = equation-only _

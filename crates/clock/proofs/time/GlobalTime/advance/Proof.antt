@@ -3,14 +3,10 @@
 -- Assumes nothing.
 use mathlib.Core.Path.{ap₂}
 use native.Mathlib.Omega.{arith}
-use Prim.Native.Nat.{ℕ}
 use borrow.Author.Needs.{needs}
-use Rattle.clock.specs.declared.time.GlobalTime.{GlobalTime}
+use Rattle.clock.specs.Time.{timeOf}
 use Rattle.clock.proofs.time.GlobalTime.advance.Statement.{statement}
 use Rattle.clock.proofs.time.GlobalTime.advance.Tie as tie
-
-abbrev whole : ℕ → ℕ → GlobalTime
-whole s n = record { 0 = s; 1 = n }
 
 cast-rest : tie.Need-cast-rest
 cast-rest c = search needs
@@ -31,10 +27,10 @@ add-t10 : tie.Need-add-t10
 add-t10 c = search needs
 
 returns : tie.Need-returns
-returns c = ap₂ whole (omega arith) (omega arith)
+returns c = ap₂ timeOf (omega arith) (omega arith)
 
 returns-2 : tie.Need-returns-2
-returns-2 c = ap₂ whole (omega arith) (omega arith)
+returns-2 c = ap₂ timeOf (omega arith) (omega arith)
 
 pub advance-spec : {M : Type 1} → statement M
 advance-spec =
