@@ -10,6 +10,8 @@ use Rattle.clock.specs.declared.reading.VirtualLocalTime.{VirtualLocalTi
 use Rattle.clock.specs.declared.time.GlobalTime.{GlobalTime}
 use Rattle.clock.specs.declared.base.TimeBase.{TimeBase}
 use Rattle.clock.specs.Reading.{isReading, spanOf}
+use Rattle.clock.specs.declared.over.Over.{Over}
+use Rattle.clock.specs.Over.{overOf}
 use Rattle.clock.specs.Time.{isTime, isWithin, mostReceived, mostRead, advanced}
 use Rattle.clock.specs.Base.{baseOf, timeAt}
 
@@ -36,3 +38,6 @@ new-only g r = equation-only _
 
 pub time-at-only : (b : TimeBase) (t : VirtualLocalTime) → OnlyOne (λ (r : GlobalTime). r ≡ timeAt b t)
 time-at-only b t = equation-only _
+
+pub carried-over-only : (nanoseconds span : ℕ) → OnlyOne (λ (r : Over). r ≡ overOf nanoseconds span)
+carried-over-only nanoseconds span = equation-only _

@@ -1,5 +1,6 @@
 -- The definitions of `clock`, in the order to read them.
 pub mod Reading
+pub mod Over
 pub mod Time
 pub mod Base
 pub mod Apart

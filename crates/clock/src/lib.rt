@@ -5,6 +5,7 @@
 pub mod apart;
 mod base;
 pub mod difference;
+mod over;
 mod reading;
 mod time;
 
@@ -19,5 +20,7 @@ pub use difference::minus;
 pub use difference::minus_at;
 pub use difference::minus_exceeds;
 pub use difference::order;
+pub use over::Over;
+pub use over::carried_over;
 pub use reading::VirtualLocalTime;
 pub use time::GlobalTime;

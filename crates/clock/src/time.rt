@@ -1,4 +1,5 @@
 // Global times (paper 01, "Two clocks"), and the time a span later.
+use crate::over::carried_over;
 ghost use mathlib.Core.Path.{_≡_};
 ghost use Rattle.clock.specs.Time.{isTime, isWithin, mostReceived, mostRead, advanced};
 
@@ -53,13 +54,12 @@ impl GlobalTime {
     pub fn advance(self, span: u64) -> GlobalTime
         ensures { λ r. ⌜ r ≡ advanced self span ⌝ }
     {
-        let rest = (self.1 as u64) + span % GlobalTime::SECOND;
-        let carry = span / GlobalTime::SECOND + rest / GlobalTime::SECOND;
-        let nanoseconds = (rest % GlobalTime::SECOND) as u32;
+        let over = carried_over(self.1, (span % GlobalTime::SECOND) as u32);
+        let carry = span / GlobalTime::SECOND + (over.seconds as u64);
         if carry <= u64::MAX - self.0 {
-            GlobalTime(self.0 + carry, nanoseconds)
+            GlobalTime(self.0 + carry, over.nanoseconds)
         } else {
-            GlobalTime(u64::MAX, nanoseconds)
+            GlobalTime(u64::MAX, over.nanoseconds)
         }
     }
 }

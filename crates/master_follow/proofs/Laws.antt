@@ -19,10 +19,10 @@ use Rattle.clock.proofs.Laws.{carry-exact, advance-exact}
 use Rattle.refusal.specs.declared.Refusal.the-variants.{NoOpenSync, NoRoom}
 use Rattle.domain.specs.declared.Sending.{Sending}
 use Rattle.domain.specs.declared.Sending.the-variants.{Never, Open, Confirmed}
-use Rattle.master_follow.specs.declared.over.Over.{Over}
+use Rattle.clock.specs.declared.over.Over.{Over}
 use Rattle.master_follow.specs.declared.Follow.{Follow}
 use Rattle.master_follow.specs.declared.Follow.the-variants.{With, Refused as refused}
-use Rattle.master_follow.specs.Over.{overOf}
+use Rattle.clock.specs.Over.{overOf}
 use Rattle.master_follow.specs.Follow.{isOpenFor, wholeOf, ovsOf, followOf}
 
 module _ (g : GlobalTime) (at t : VirtualLocalTime) (good : IsSet g) (fresh : spanOf at t ≤ 3000000000) where

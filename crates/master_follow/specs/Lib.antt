@@ -1,3 +1,2 @@
 -- The definitions of `master_follow`.
-pub mod Over
 pub mod Follow

@@ -1,9 +1,7 @@
 // The FUP of an open SYNC (paper 01, "A master's domain").
-mod over;
-
 use clock::VirtualLocalTime;
+use clock::carried_over;
 use domain::Sending;
-use over::carried_over;
 use refusal::Refusal;
 ghost use mathlib.Core.Path.{_≡_};
 ghost use Rattle.master_follow.specs.Follow.{followOf};

@@ -9,7 +9,7 @@ use borrow.Author.Needs.{needs}
 use Rattle.clock.specs.declared.reading.VirtualLocalTime.{VirtualLocalTime}
 use Rattle.clock.specs.declared.time.GlobalTime.{GlobalTime}
 use Rattle.clock.specs.Reading.{spanOf}
-use Rattle.master_follow.specs.Over.{overOf}
+use Rattle.clock.specs.Over.{overOf}
 use Rattle.master_follow.specs.Follow.{wholeOf, ovsOf}
 use Rattle.master_follow.proofs.Laws.{over, over-exact}
 use Rattle.master_follow.proofs.follow_up.Statement.{statement}

@@ -1,4 +1,4 @@
--- `master_follow::over::carried_over` meets its contract: after the step of w seconds nothing is lost, and less than
+-- `clock::over::carried_over` meets its contract: after the step of w seconds nothing is lost, and less than
 -- w seconds are left; after that of 1 these are the quotient and the rest.
 -- Assumes nothing.
 use Prim.Native.Nat.{ℕ, _+_, _*_, _/_, _%_, _<_}
@@ -6,8 +6,8 @@ use mathlib.Core.Path.{_≡_}
 use mathlib.Core.Logic.{⊎-elim}
 use native.Mathlib.Omega.{arith}
 use borrow.Author.Needs.{needs}
-use Rattle.master_follow.proofs.over.carried_over.Statement.{statement}
-use Rattle.master_follow.proofs.over.carried_over.Tie as tie
+use Rattle.clock.proofs.over.carried_over.Statement.{statement}
+use Rattle.clock.proofs.over.carried_over.Tie as tie
 
 -- what is left after the step of w seconds
 pub record Left (w : ℕ) (start : tie.Start) (seconds rest : ℕ) : Type 0 where

@@ -1,18 +1,18 @@
-// What comes over the second (paper 01, "A master's domain": "the whole seconds beyond those sent, and the
-// nanoseconds"), by comparing and subtracting. A FUP is worked out in the interrupt of its confirmation, whose stack
-// has no room for the controller's long division (paper 02, request 2). A loop that subtracts is compiled back into
+// What comes over the second, by comparing and subtracting: the whole seconds of two numbers of nanoseconds together, and
+// the nanoseconds. A FUP is worked out in the interrupt of its confirmation, whose stack has no room for the controller's
+// long division (paper 02, request 2), and a time that is read is spared one. A loop that subtracts is compiled back into
 // that division; straight steps are not. `tools/controller` looks at what the compiler made.
 ghost use mathlib.Core.Path.{_≡_};
-ghost use Rattle.master_follow.specs.Over.{overOf};
+ghost use Rattle.clock.specs.Over.{overOf};
 
 // Whole seconds, and the nanoseconds beside them.
-pub(crate) struct Over {
-    pub(crate) seconds: u8,
-    pub(crate) nanoseconds: u32,
+pub struct Over {
+    pub seconds: u8,
+    pub nanoseconds: u32,
 }
 
-// What comes over of a SYNC's nanoseconds a span later. Any two numbers of 32 bits are less than 9 seconds together.
-pub(crate) fn carried_over(nanoseconds: u32, span: u32) -> Over
+// What comes over of some nanoseconds a span later. Any two numbers of 32 bits are less than 9 seconds together.
+pub fn carried_over(nanoseconds: u32, span: u32) -> Over
     ensures { λ r. ⌜ r ≡ overOf nanoseconds span ⌝ }
 {
     let mut rest = (nanoseconds as u64) + (span as u64);
