@@ -4,8 +4,8 @@
  *
  * The time of a base at a reading is worked out by two divisions, of the span between and of the nanoseconds. How long
  * they take goes by their numbers: the second one is short unless the nanoseconds carry over into the seconds, and the
- * first one takes a step for each bit of the seconds, a longer one where the bit is 1. So the spans below take longest
- * within a day, and at all.
+ * first one takes a step for each bit of the seconds, a longer one where the bit is 1. Of the spans that were tried
+ * these two take longest, the one within a day, the other of all.
  */
 #include "board.h"
 #include "knottgust.h"
@@ -80,7 +80,7 @@ static void make(const kg_settings *settings)
 }
 
 /* A plain frame; `word` is a SYNC's seconds or a FUP's nanoseconds. */
-static const uint8_t *frame(uint8_t *bytes, uint8_t type, uint8_t domain, uint8_t counter, uint32_t word)
+static void frame(uint8_t *bytes, uint8_t type, uint8_t domain, uint8_t counter, uint32_t word)
 {
     size_t i;
     bytes[0] = type;
@@ -88,7 +88,6 @@ static const uint8_t *frame(uint8_t *bytes, uint8_t type, uint8_t domain, uint8_
     bytes[2] = (uint8_t)(domain << 4 | counter);
     for (i = 0; i < 4; i++)
         bytes[4 + i] = (uint8_t)(word >> (24 - 8 * i));
-    return bytes;
 }
 
 /* The plain slave takes a frame. */
@@ -243,7 +242,7 @@ static void rows_of_set(void)
         must(sent == (number), of ": so many are sent");                                                              \
     } while (0)
 
-/* Each master has sent or been set some seconds before, and its nanoseconds carry over. */
+/* Each master was set some seconds before, and its nanoseconds carry over. */
 static void rows_of_main_cycle(void)
 {
     uint8_t d;
