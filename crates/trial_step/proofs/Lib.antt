@@ -1,2 +1,3 @@
 -- The laws of `trial_step`.
 pub mod Only
+pub mod Laws

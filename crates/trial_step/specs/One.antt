@@ -2,7 +2,6 @@
 use Prim.Native.Nat.{ℕ, _-_, _/_, _%_}
 use mathlib.Core.List.{List}
 use lib.ListN.{getD, take}
-use Rattle.clock.specs.declared.reading.VirtualLocalTime.{VirtualLocalTime}
 use Rattle.text.specs.Fields.{longAt}
 use Rattle.settings.specs.Node.{places}
 use Rattle.domain.specs.Records.{recordAt}
@@ -22,13 +21,12 @@ placeIn bytes = getD bytes 3 0 % 32
 abbrev pub shortFrame : List ℕ → List ℕ
 shortFrame bytes = take (8 - getD bytes 3 0 / 32) (payloadOf bytes)
 
--- ---- The frame on the record at a place, modulo 16; the record and the kept reading are stored.
-abbrev pub frameAt : Node → (place : ℕ) → VirtualLocalTime → List ℕ → NodeFrame
-frameAt n place t bytes =
-    let at = place % places in frameStored n at (frameCallOf (recordAt (n .domains) at) (n .kept) t bytes)
-
+-- ---- The frame on the record at the place, modulo 16; the record and the kept reading are stored.
 abbrev pub oneTaken : Node → List ℕ → NodeFrame
-oneTaken n bytes = frameAt n (placeIn bytes) (record { 0 = longAt bytes 4 }) (shortFrame bytes)
+oneTaken n bytes =
+    let at = placeIn bytes % places in
+    frameStored n at
+    (frameCallOf (recordAt (n .domains) at) (n .kept) (record { 0 = longAt bytes 4 }) (shortFrame bytes))
 
 abbrev pub OneStepped : Node → (item : ℕ) (bytes : List ℕ) (at : ℕ) (before : List ℕ) → Step → List ℕ → Type 0
 OneStepped n item bytes at before r after =

@@ -26,12 +26,10 @@ abbrev pub lentAnswers : List ℕ → List ℕ
 lentAnswers bytes = replicate (min (pairAt bytes 12) 512) 0xA5
 
 -- ---- The queue call, and the line of its answer and of the lent bytes after it.
-abbrev pub Queued :
-    Node → (item : ℕ) (readings frames lent : List ℕ) (at : ℕ) (before : List ℕ) → Step → List ℕ → Type 0
-Queued n item ts fs lent at before r after =
-    let answer = queueAnswer (length ts) (length fs) (length lent) in
-    Stepped (queueNode answer n ts fs) true (queueLine item answer (queueBytes answer n ts fs lent)) at before r after
-
 abbrev pub QueueStepped : Node → (item : ℕ) (bytes : List ℕ) (at : ℕ) (before : List ℕ) → Step → List ℕ → Type 0
 QueueStepped n item bytes at before r after =
-    Queued n item (givenReadings bytes) (givenFrames bytes) (lentAnswers bytes) at before r after
+    let ts = givenReadings bytes in
+    let fs = givenFrames bytes in
+    let lent = lentAnswers bytes in
+    let answer = queueAnswer (length ts) (length fs) (length lent) in
+    Stepped (queueNode answer n ts fs) true (queueLine item answer (queueBytes answer n ts fs lent)) at before r after

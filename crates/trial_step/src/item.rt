@@ -2,7 +2,7 @@
 use crate::queue::frame_bytes;
 use text::fields::byte_at;
 ghost use mathlib.Core.Path.{_≡_};
-ghost use Rattle.trial_step.specs.Item.{kindOf, itemOf, lengthAs, itemLength};
+ghost use Rattle.trial_step.specs.Item.{kindOf, itemOf, itemLength};
 
 pub enum Item {
     // A settings block.
@@ -39,18 +39,12 @@ fn kind_of(kind: u8) -> Item
     }
 }
 
-// How many bytes the item has that begins here. Where its first bytes have not come yet, it is more than there are.
+// How many bytes the item has that begins here: those of a settings block or of a queue, or 20. Where its first bytes
+// have not come yet, it is more than there are.
 pub fn item_length(bytes: &[u8]) -> usize
     ensures { λ r. ⌜ r ≡ itemLength (now (bytes .entry)) ⌝ }
 {
-    length_as(item_of(bytes), bytes)
-}
-
-// Those of a settings block or of a queue, or 20.
-fn length_as(item: Item, bytes: &[u8]) -> usize
-    ensures { λ r. ⌜ r ≡ lengthAs item (now (bytes .entry)) ⌝ }
-{
-    match item {
+    match item_of(bytes) {
         Item::Settings => 4 + 128 * (byte_at(bytes, 3) as usize),
         Item::Queue => 20 + 8 * (byte_at(bytes, 3) as usize) + frame_bytes(bytes),
         Item::One => 20,

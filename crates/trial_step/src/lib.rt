@@ -9,6 +9,7 @@ mod queue;
 use crate::block::settings_of;
 use crate::item::Item;
 use crate::item::item_of;
+use crate::line::put_number;
 use crate::line::put_trial_line;
 use crate::one::take_one;
 use crate::queue::take_queue;
@@ -21,13 +22,10 @@ use node_call::Request;
 use node_call::call;
 use text::fields::byte_at;
 use text::fields::pair_at;
-use text::lines::put_answer;
 use text::pieces::least;
-use text::put_byte;
 ghost use mathlib.Core.Path.{_≡_};
-ghost use Rattle.bench_record.specs.Record.{askedBy};
-ghost use Rattle.bench_record.specs.Step.{Answered, RecordStepped};
-ghost use Rattle.trial_step.specs.TrialLine.{trialLine, Numbered};
+ghost use Rattle.bench_record.specs.Step.{Answered};
+ghost use Rattle.trial_step.specs.TrialLine.{trialLine};
 ghost use Rattle.trial_step.specs.Step.{
   paddedFrame,
   givenFrame,
@@ -42,25 +40,18 @@ pub fn trial_step(node: Node, item: u64, bytes: &[u8], out: &mut [u8], at: usize
     ensures { λ r. ⌜ TrialStepped node item (now (bytes .entry)) at (now (out .entry)) r (now (out .exit)) ⌝ }
 {
     match item_of(bytes) {
-        Item::Settings => renew(item, bytes, out, at),
-        Item::Queue => take_queue(node, item, bytes, out, at),
-        Item::One => take_one(node, item, bytes, out, at),
-        Item::Record => take_record(node, item, bytes, out, at),
+        Item::Settings => return renew(item, bytes, out, at),
+        Item::Queue => return take_queue(node, item, bytes, out, at),
+        Item::One => return take_one(node, item, bytes, out, at),
+        Item::Record => {}
     }
+    let Asked::Call(request) = asked_by(bytes) else {
+        return bad_record(node, item, out, at);
+    };
+    ask(node, item, request, bytes, out, at)
 }
 
-// Any other record: the call that it asks for, or a bad one.
-fn take_record(node: Node, item: u64, bytes: &[u8], out: &mut [u8], at: usize) -> Step
-    ensures { λ r. ⌜ RecordStepped (askedBy (now (bytes .entry))) (trialLine item) (givenFrame (now (bytes .entry)))
-        (lentBuffer (now (bytes .entry))) node item at (now (out .entry)) r (now (out .exit)) ⌝ }
-{
-    match asked_by(bytes) {
-        Asked::Bad => bad_record(node, item, out, at),
-        Asked::Call(request) => ask(node, item, request, bytes, out, at),
-    }
-}
-
-// The call that a record asks for, with the record's frame and a lent buffer of A5s.
+// The call that a record asks for, with the record's frame and a lent buffer of A5s, and its line.
 fn ask(node: Node, item: u64, request: Request, bytes: &[u8], out: &mut [u8], at: usize) -> Step
     ensures { λ r. ⌜ Answered (trialLine item) node request (givenFrame (now (bytes .entry)))
         (lentBuffer (now (bytes .entry)) request) at (now (out .entry)) r (now (out .exit)) ⌝ }
@@ -69,15 +60,15 @@ fn ask(node: Node, item: u64, request: Request, bytes: &[u8], out: &mut [u8], at
     let frame_length = byte_at(bytes, 3) as usize;
     let mut buffer = [0xA5u8; 512];
     let length = lent_length(request, bytes);
-    answer(
-        node,
-        item,
-        request,
-        &frame[..frame_length],
-        &mut buffer[..length],
-        out,
-        at,
-    )
+    let called = call(node, request, &frame[..frame_length], &mut buffer[..length]);
+    let told = called.answer;
+    let after = called.node;
+    let end = put_trial_line(out, at, item, told, &buffer[..length]);
+    Step {
+        node: after,
+        at: end,
+        goes_on: true,
+    }
 }
 
 // The node of a settings block, also where it is refused.
@@ -87,41 +78,9 @@ fn renew(item: u64, bytes: &[u8], out: &mut [u8], at: usize) -> Step
     let new = Node::new(settings_of(bytes));
     let verdict = new.verdict;
     let node = new.node;
-    numbered(node, verdict.number(), item, out, at)
-}
-
-// A line that has the number alone, and the node after it.
-fn numbered(node: Node, number: u8, item: u64, out: &mut [u8], at: usize) -> Step
-    ensures { λ r. ⌜ Numbered node number item at (now (out .entry)) r (now (out .exit)) ⌝ }
-{
-    let newline = put_answer(out, at, item, number);
-    let end = put_byte(out, newline, b'\n');
+    let end = put_number(out, at, item, verdict.number());
     Step {
         node,
-        at: end,
-        goes_on: true,
-    }
-}
-
-// A call and its line.
-fn answer(
-    node: Node,
-    item: u64,
-    request: Request,
-    frame: &[u8],
-    buffer: &mut [u8],
-    out: &mut [u8],
-    at: usize,
-) -> Step
-    ensures { λ r. ⌜ Answered (trialLine item) node request (now (frame .entry)) (now (buffer .entry)) at
-        (now (out .entry)) r (now (out .exit)) ⌝ }
-{
-    let called = call(node, request, frame, buffer);
-    let told = called.answer;
-    let after = called.node;
-    let end = put_trial_line(out, at, item, told, buffer);
-    Step {
-        node: after,
         at: end,
         goes_on: true,
     }

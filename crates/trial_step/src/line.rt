@@ -4,17 +4,16 @@ use call_read::ReadAnswer;
 use node::CycleAnswer;
 use node_call::CallAnswer;
 use node_queue::QueueAnswer;
-use settings::UserBytes;
 use text::lines::put_answer;
 use text::put_byte;
 use text::put_decimal;
 use text::put_hex;
-use text::put_hex_byte;
 ghost use mathlib.Core.Path.{_≡_};
+ghost use mathlib.Core.List.{_++_};
 ghost use Rattle.text.specs.Text.{Puts};
+ghost use Rattle.text.specs.Lines.{newline, answerText};
 ghost use Rattle.node.specs.CycleAnswer.{cycleCount};
 ghost use Rattle.trial_step.specs.TrialLine.{
-  userText,
   trialRead,
   bufferText,
   trialValues,
@@ -52,6 +51,14 @@ pub fn put_queue_line(
     put_byte(out, end, b'\n')
 }
 
+// A line that has the number alone.
+pub(crate) fn put_number(out: &mut [u8], at: usize, item: u64, number: u8) -> usize
+    ensures { λ r. ⌜ Puts (answerText item number ++ newline) at (now (out .entry)) r (now (out .exit)) ⌝ }
+{
+    let end = put_answer(out, at, item, number);
+    put_byte(out, end, b'\n')
+}
+
 // What comes after the number.
 fn put_values(out: &mut [u8], at: usize, answer: CallAnswer, buffer: &[u8]) -> usize
     ensures { λ r. ⌜ Puts (trialValues answer (now (buffer .entry))) at (now (out .entry)) r (now (out .exit)) ⌝ }
@@ -79,19 +86,11 @@ fn put_read(out: &mut [u8], at: usize, read: ReadAnswer) -> usize
             let user = shown.user;
             let blank = put_shown(out, at, shown);
             let bytes = put_byte(out, blank, b' ');
-            let second = put_user(out, bytes, user);
+            let second = put_hex(out, bytes, &[user.0, user.1, user.2]);
             let updates = put_byte(out, second, b' ');
             put_decimal(out, updates, shown.updates as u64)
         }
     }
-}
-
-fn put_user(out: &mut [u8], at: usize, user: UserBytes) -> usize
-    ensures { λ r. ⌜ Puts (userText user) at (now (out .entry)) r (now (out .exit)) ⌝ }
-{
-    let one = put_hex_byte(out, at, user.0);
-    let two = put_hex_byte(out, one, user.1);
-    put_hex_byte(out, two, user.2)
 }
 
 // A refused main cycle sent none.

@@ -11,7 +11,7 @@ use text::fields::pair_at;
 use text::pieces::least;
 ghost use mathlib.Core.Path.{_≡_};
 ghost use Rattle.text.specs.Fields.{longsAt};
-ghost use Rattle.trial_step.specs.Queue.{frameBytes, Queued, QueueStepped};
+ghost use Rattle.trial_step.specs.Queue.{frameBytes, givenFrames, QueueStepped};
 
 // How many frame bytes follow the readings: above 4,096 so many.
 pub(crate) fn frame_bytes(bytes: &[u8]) -> usize
@@ -26,19 +26,32 @@ pub(crate) fn take_queue(node: Node, item: u64, bytes: &[u8], out: &mut [u8], at
 {
     let count = byte_at(bytes, 3) as usize;
     let readings = readings_of(bytes);
-    let start = least(20 + 8 * count, bytes.len());
-    let end = start + least(frame_bytes(bytes), bytes.len() - start);
     let mut buffer = [0xA5u8; 512];
     let room = least(pair_at(bytes, 12) as usize, 512);
-    answer_queue(
+    let queued = on_queue(
         node,
-        item,
         &readings[..count],
-        &bytes[start..end],
+        frames_of(bytes),
         &mut buffer[..room],
-        out,
-        at,
-    )
+    );
+    let answer = queued.answer;
+    let after = queued.node;
+    let end = put_queue_line(out, at, item, answer, &buffer[..room]);
+    Step {
+        node: after,
+        at: end,
+        goes_on: true,
+    }
+}
+
+// The frame bytes of an item, as they stand; of a shorter item those that there are.
+fn frames_of(bytes: &[u8]) -> &[u8]
+    ensures { λ r. ⌜ now r ≡ givenFrames (now (bytes .entry)) ⌝ }
+{
+    let count = byte_at(bytes, 3) as usize;
+    let start = least(20 + 8 * count, bytes.len());
+    let end = start + least(frame_bytes(bytes), bytes.len() - start);
+    &bytes[start..end]
 }
 
 // As many as there can be: bytes beyond the item count as 0.
@@ -52,28 +65,4 @@ fn readings_of(bytes: &[u8]) -> [u64; 255]
         i += 1;
     }
     readings
-}
-
-// A queue call and its line.
-fn answer_queue(
-    node: Node,
-    item: u64,
-    readings: &[u64],
-    frames: &[u8],
-    buffer: &mut [u8],
-    out: &mut [u8],
-    at: usize,
-) -> Step
-    ensures { λ r. ⌜ Queued node item (now (readings .entry)) (now (frames .entry)) (now (buffer .entry)) at
-        (now (out .entry)) r (now (out .exit)) ⌝ }
-{
-    let queued = on_queue(node, readings, frames, buffer);
-    let answer = queued.answer;
-    let after = queued.node;
-    let end = put_queue_line(out, at, item, answer, buffer);
-    Step {
-        node: after,
-        at: end,
-        goes_on: true,
-    }
 }

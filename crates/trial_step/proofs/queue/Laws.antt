@@ -19,7 +19,7 @@ use Rattle.node_queue.specs.declared.QueueAnswer.{QueueAnswer}
 use Rattle.node_queue.specs.declared.NodeQueue.{NodeQueue}
 use Rattle.node_queue.specs.Queue.{queueNode, queueBytes, QueuedIn}
 use Rattle.trial_step.specs.TrialLine.{queueLine}
-use Rattle.trial_step.specs.Queue.{Queued}
+use Rattle.trial_step.specs.Queue.{givenReadings, givenFrames, lentAnswers, QueueStepped}
 
 drop-min : (a : ℕ) (l : List ℕ) → drop (min a (length l)) l ≡ drop a l
 drop-min a l = go (leb a (length l)) refl
@@ -49,14 +49,17 @@ part-is l a f {start} {more} s m =
     ∙ ap (take f) (ap (λ (k : ℕ). drop k l) s ∙ drop-min a l)
 
 pub queued :
-    (item : ℕ) {n : Node} {ts fs lent told before after : List ℕ} {r : NodeQueue} {at end : ℕ} →
-    QueuedIn n ts fs lent r told → Puts (queueLine item (r .answer) told) at before end after →
-    Queued n item ts fs lent at before (record { node = r .node; at = end; «goes_on» = true }) after
-queued item {n} {ts} {fs} {lent} q p =
+    (item : ℕ) (bytes : List ℕ) {n : Node} {told before after : List ℕ} {r : NodeQueue} {at end : ℕ} →
+    QueuedIn n (givenReadings bytes) (givenFrames bytes) (lentAnswers bytes) r told →
+    Puts (queueLine item (r .answer) told) at before end after →
+    QueueStepped n item bytes at before (record { node = r .node; at = end; «goes_on» = true }) after
+queued item bytes {n} q p =
+    let ts = givenReadings bytes in
+    let fs = givenFrames bytes in
     record {
       node = q .node ∙ ap (λ (a : QueueAnswer). queueNode a n ts fs) (q .answer);
       «goes_on» = refl;
       line =
           named (λ i. queueLine item (q .answer i)
-          ((q .bytes ∙ ap (λ (a : QueueAnswer). queueBytes a n ts fs lent) (q .answer)) i)) p;
+          ((q .bytes ∙ ap (λ (a : QueueAnswer). queueBytes a n ts fs (lentAnswers bytes)) (q .answer)) i)) p;
     }

@@ -1,12 +1,18 @@
 -- `trial_step::domain_block::master` meets its contract: each arm knows how it sends, and the callees ensure the
 -- fields.
 -- Assumes nothing.
+use Prim.Native.Nat.{_<_}
 use mathlib.Core.Path.{ap, _∙_}
 use borrow.Author.Needs.{needs}
 use Rattle.settings.specs.Domain.{asMaster}
 use Rattle.trial_step.specs.DomainBlock.{confirmationTime}
+use Rattle.trial_step.proofs.domain_block.Laws.{within, fits16, fits64}
 use Rattle.trial_step.proofs.domain_block.master.Statement.{statement}
 use Rattle.trial_step.proofs.domain_block.master.Tie as tie
+
+-- ---- The block's place, as the code after the match has it.
+begins : (c : tie.After-known-told) → c .before .before .before .before .args .at < 40000
+begins c = c .before .before .before .before .pre
 
 enum-told : tie.Need-enum-told
 enum-told c = search needs
@@ -18,13 +24,13 @@ enum-known-sends : tie.Need-enum-known-sends
 enum-known-sends c = search needs
 
 add-long-at : tie.Need-add-long-at
-add-long-at c = search needs
+add-long-at c = fits16 (begins c) _ tt
 
 long-at-requires : tie.Need-long-at-requires
 long-at-requires c κs = search needs
 
 add-long-at-2 : tie.Need-add-long-at-2
-add-long-at-2 c = search needs
+add-long-at-2 c = fits16 (begins (c .before)) _ tt
 
 long-at-requires-2 : tie.Need-long-at-requires-2
 long-at-requires-2 c κs = search needs
@@ -33,25 +39,25 @@ confirmation-time-requires : tie.Need-confirmation-time-requires
 confirmation-time-requires c κs = search needs
 
 add-ids-at : tie.Need-add-ids-at
-add-ids-at c = search needs
+add-ids-at c = fits16 (begins (c .before .before .before)) _ tt
 
 ids-at-requires : tie.Need-ids-at-requires
-ids-at-requires c κs = search needs
+ids-at-requires c κs = within (begins (c .before .before .before)) _ tt
 
 add-byte-at : tie.Need-add-byte-at
-add-byte-at c = search needs
+add-byte-at c = fits64 (begins (c .before .before .before .before)) _ tt
 
 byte-at-requires : tie.Need-byte-at-requires
 byte-at-requires c κs = search needs
 
 add-byte-at-2 : tie.Need-add-byte-at-2
-add-byte-at-2 c = search needs
+add-byte-at-2 c = fits64 (begins (c .before .before .before .before .before)) _ tt
 
 byte-at-requires-2 : tie.Need-byte-at-requires-2
 byte-at-requires-2 c κs = search needs
 
 add-byte-at-3 : tie.Need-add-byte-at-3
-add-byte-at-3 c = search needs
+add-byte-at-3 c = fits64 (begins (c .before .before .before .before .before .before)) _ tt
 
 byte-at-requires-3 : tie.Need-byte-at-requires-3
 byte-at-requires-3 c κs = search needs

@@ -19,8 +19,11 @@ put-shown-requires c κs = search needs
 put-byte-requires : tie.Need-put-byte-requires
 put-byte-requires c κs = search needs
 
-put-user-requires : tie.Need-put-user-requires
-put-user-requires c κs = search needs
+slice-aggregate-put-hex : tie.Need-slice-aggregate-put-hex
+slice-aggregate-put-hex c = search needs
+
+put-hex-requires : tie.Need-put-hex-requires
+put-hex-requires c κs = search needs
 
 put-byte-requires-2 : tie.Need-put-byte-requires-2
 put-byte-requires-2 c κs = search needs
@@ -40,14 +43,14 @@ returns-2 c =
     let updates = c .before .before in
     let second = updates .before .before .before .before .before in
     let user = second .before .before .before .before in
-    let first = user .before .before .before .before in
+    let first = user .before .before .before .before .before in
     let shown = first .before .before .before .before in
     let arm = shown .before .before .before .before in
     named
     (ap trialRead (sym (arm .read .given .1)))
     (then
     (then
-    (then (then (shown .put-shown .ensures) (first .put-byte .ensures)) (user .put-user .ensures))
+    (then (then (shown .put-shown .ensures) (first .put-byte .ensures)) (user .put-hex .ensures))
     (second .put-byte2 .ensures))
     (updates .put-decimal .ensures))
 
@@ -62,7 +65,8 @@ put-read-spec =
     enum-known-read
     put-shown-requires
     put-byte-requires
-    put-user-requires
+    slice-aggregate-put-hex
+    put-hex-requires
     put-byte-requires-2
     cast-put-decimal
     put-decimal-requires
