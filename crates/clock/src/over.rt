@@ -1,7 +1,7 @@
-// What comes over the second, by comparing and subtracting: the whole seconds of two numbers of nanoseconds together, and
-// the nanoseconds. A FUP is worked out in the interrupt of its confirmation, whose stack has no room for the controller's
-// long division (paper 02, request 2), and a time that is read is spared one. A loop that subtracts is compiled back into
-// that division; straight steps are not. `tools/controller` looks at what the compiler made.
+// What comes over the second, by comparing and subtracting: the whole seconds of two numbers of nanoseconds together,
+// and the nanoseconds. A FUP is worked out in the interrupt of its confirmation, whose stack has no room for the
+// controller's long division (paper 02, request 2), and a time that is read is spared one. A loop that subtracts is
+// compiled back into that division; straight steps are not. `tools/controller` looks at what the compiler made.
 ghost use mathlib.Core.Path.{_≡_};
 ghost use Rattle.clock.specs.Over.{overOf};
 

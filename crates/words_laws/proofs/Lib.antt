@@ -10,6 +10,7 @@ pub mod Calls
 pub mod Queue
 pub mod Cycle
 pub mod Run
+pub mod Promised
 pub mod CallsOfNode
 pub mod CycleOfNode
 pub mod RunOfNode
