@@ -1,0 +1,515 @@
+/*
+ * The picture. The time of the log is cut into at most PIECES pieces of one width, and a piece keeps the least and the
+ * greatest D and, for each number, the first refused frame and how many there were. When the log runs over the last
+ * piece, two pieces become one and the width doubles: so a short log is drawn frame by frame, and a long one as what
+ * could be seen of it anyway.
+ */
+#include "picture.h"
+
+#include <errno.h>
+#include <inttypes.h>
+#include <math.h>
+#include <stdio.h>
+#include <stdlib.h>
+#include <string.h>
+
+enum { PIECES = 1024, SPANS_MOST = 2 * PIECES };
+
+/* A frame's place, and how many frames it stands for. */
+struct mark {
+    uint64_t count, line;
+    int64_t at, d;
+};
+
+struct piece {
+    struct mark first; /* a domain's first update, which has no D */
+    struct mark least, greatest; /* of the updates with a D; `count` is of both the same */
+    struct mark refused[NUMBERS];
+};
+
+struct spans {
+    unsigned count;
+    struct {
+        int64_t from, to;
+    } of[SPANS_MOST];
+};
+
+struct drawn {
+    struct piece pieces[PIECES];
+    struct spans spans[SPAN_KINDS];
+};
+
+static const char *path; /* of the picture; NULL: there is none */
+static struct drawn *rows;
+static int64_t width = 1000; /* of a piece, in nanoseconds */
+
+void picture_begin(const char *file)
+{
+    FILE *there;
+    if (file == NULL)
+        return;
+    there = fopen(file, "ab"); /* what stands there stays until the picture is whole */
+    if (there == NULL)
+        fail(2, "cannot write '%s': %s", file, strerror(errno));
+    fclose(there);
+    rows = calloc(ROWS, sizeof *rows);
+    if (rows == NULL)
+        fail(3, "no memory");
+    path = file;
+}
+
+/* ---- What is kept. */
+
+/* Two marks of one kind as one, which stands at the first. */
+static void join_mark(struct mark *to, const struct mark *more)
+{
+    uint64_t count = to->count + more->count;
+    if (to->count == 0)
+        *to = *more;
+    to->count = count;
+}
+
+/* Two D: the lesser if `sign` is 1, the greater if it is -1. */
+static void join_end(struct mark *to, const struct mark *more, int sign)
+{
+    uint64_t count = to->count + more->count;
+    if (to->count == 0 || (more->count > 0 && (sign > 0 ? more->d < to->d : more->d > to->d)))
+        *to = *more;
+    to->count = count;
+}
+
+static void join_piece(struct piece *to, const struct piece *more)
+{
+    unsigned number;
+    join_mark(&to->first, &more->first);
+    join_end(&to->least, &more->least, 1);
+    join_end(&to->greatest, &more->greatest, -1);
+    for (number = 0; number < NUMBERS; number++)
+        join_mark(&to->refused[number], &more->refused[number]);
+}
+
+/* Spans that stand closer than a piece is wide become one. */
+static void join_spans(struct spans *spans)
+{
+    unsigned kept = 0, i;
+    for (i = 1; i < spans->count; i++)
+        if (spans->of[i].from - spans->of[kept].to < width)
+            spans->of[kept].to = spans->of[i].to;
+        else
+            spans->of[++kept] = spans->of[i];
+    if (spans->count > 0)
+        spans->count = kept + 1;
+}
+
+static void double_width(void)
+{
+    unsigned row, i;
+    width *= 2;
+    for (row = 0; row < ROWS; row++) {
+        struct piece *pieces = rows[row].pieces;
+        for (i = 0; i < PIECES; i += 2) {
+            join_piece(&pieces[i], &pieces[i + 1]);
+            pieces[i / 2] = pieces[i];
+        }
+        memset(pieces + PIECES / 2, 0, sizeof *pieces * PIECES / 2);
+        for (i = 0; i < SPAN_KINDS; i++)
+            join_spans(&rows[row].spans[i]);
+    }
+}
+
+/* A reading that is none stands at the beginning; one that no call may have, at the last that it may. */
+static int64_t placed(int64_t reading)
+{
+    const int64_t most = INT64_C(1000000000000000000);
+    return reading < 0 ? 0 : reading > most ? most : reading;
+}
+
+static struct piece *piece_at(unsigned row, int64_t at)
+{
+    while (at / width >= PIECES)
+        double_width();
+    return &rows[row].pieces[at / width];
+}
+
+void picture_update(unsigned domain, int64_t reading, uint64_t line, const int64_t *d)
+{
+    struct mark mark = {1, line, placed(reading), d != NULL ? *d : 0};
+    struct piece *piece;
+    if (path == NULL)
+        return;
+    piece = piece_at(domain, mark.at);
+    if (d == NULL) {
+        join_mark(&piece->first, &mark);
+    } else {
+        join_end(&piece->least, &mark, 1);
+        join_end(&piece->greatest, &mark, -1);
+    }
+}
+
+void picture_refused(unsigned row, int64_t reading, uint64_t line, unsigned number)
+{
+    struct mark mark = {1, line, placed(reading), 0};
+    if (path != NULL)
+        join_mark(&piece_at(row, mark.at)->refused[number], &mark);
+}
+
+void picture_span(unsigned domain, enum span_kind kind, int64_t from, int64_t to)
+{
+    struct spans *spans;
+    if (path == NULL)
+        return;
+    piece_at(domain, placed(to));
+    spans = &rows[domain].spans[kind];
+    if (spans->count == SPANS_MOST)
+        join_spans(spans);
+    spans->of[spans->count].from = placed(from);
+    spans->of[spans->count++].to = placed(to);
+}
+
+/* ---- How it is drawn. All lengths are in pixels. */
+
+enum {
+    PAGE = 1000,
+    LEFT = 132,
+    RIGHT = 976,
+    TOP = 70,
+    PLOT = 120, /* the height of the D of a row */
+    LANE = 15, /* of the refused frames under one number */
+    GAP = 30 /* between rows */
+};
+
+static const char *const span_names[SPAN_KINDS] = {"TIMEOUT shows", "leap into the future shows", "leap into the past shows"};
+static const char *const span_fills[SPAN_KINDS] = {"#9a9a9a", "#e69f00", "#b66dff"};
+
+/* A colour for each number that a frame may be refused by. */
+static const char *const colours[NUMBERS] = {
+    [1] = "#000000", [2] = "#8c564b", [3] = "#a6761d", [4] = "#666666", [5] = "#d62728",
+    [6] = "#d55e00", [7] = "#cc3d8f", [8] = "#7b3294", [9] = "#1b7837", [15] = "#008b8b",
+};
+
+static const char update_colour[] = "#0072b2";
+
+static FILE *out;
+static double across; /* how many nanoseconds the width of the page shows */
+
+static double x_of(int64_t at)
+{
+    return LEFT + (RIGHT - LEFT) * ((double)at / across);
+}
+
+/* A unit, and how many nanoseconds it has. */
+struct unit {
+    const char *name;
+    double size, most; /* it is used for lengths below `most` */
+};
+
+static struct unit unit_for(double length)
+{
+    static const struct unit units[] = {
+        {"ns", 1, 1e4}, {"µs", 1e3, 1e7}, {"ms", 1e6, 1e10}, {"s", 1e9, INFINITY},
+    };
+    unsigned i = 0;
+    while (length >= units[i].most)
+        i++;
+    return units[i];
+}
+
+static struct unit unit_of_time(double length)
+{
+    static const struct unit units[] = {
+        {"µs", 1e3, 2e6}, {"ms", 1e6, 2e9}, {"s", 1e9, 9e11}, {"min", 6e10, 1.8e13}, {"h", 3.6e12, 4.4e14},
+        {"days", 8.64e13, INFINITY},
+    };
+    unsigned i = 0;
+    while (length >= units[i].most)
+        i++;
+    return units[i];
+}
+
+/* A step of 1, 2 or 5 and zeros, of which at most `most` fit a length. */
+static double step_for(double length, unsigned most)
+{
+    double step = pow(10, floor(log10(length / most)));
+    if (length / step > most)
+        step *= length / (2 * step) <= most ? 2 : length / (5 * step) <= most ? 5 : 10;
+    return step;
+}
+
+/* Text that stands in a picture as it is. */
+static void put_escaped(const char *text)
+{
+    for (; *text != 0; text++)
+        switch (*text) {
+        case '<':
+            fputs("&lt;", out);
+            break;
+        case '&':
+            fputs("&amp;", out);
+            break;
+        default:
+            fputc((unsigned char)*text < ' ' ? '?' : *text, out);
+        }
+}
+
+static bool has_d(const struct drawn *row)
+{
+    unsigned i;
+    for (i = 0; i < PIECES; i++)
+        if (row->pieces[i].least.count + row->pieces[i].first.count > 0)
+            return true;
+    return false;
+}
+
+static bool has_span(const struct account *account, enum span_kind kind)
+{
+    unsigned row;
+    for (row = 0; row < DOMAINS; row++)
+        if (account->rows[row].shown && rows[row].spans[kind].count > 0)
+            return true;
+    return false;
+}
+
+/* ---- A row. */
+
+/* The D that a row's axis runs over, 0 among them, with some room at both ends. */
+static void range_of(const struct row *row, double *least, double *greatest)
+{
+    *least = row->moves > 0 && row->least < 0 ? (double)row->least : 0;
+    *greatest = row->moves > 0 && row->greatest > 0 ? (double)row->greatest : 0;
+    if (*greatest - *least < 2) {
+        *least -= 1;
+        *greatest += 1;
+    } else {
+        double room = 0.08 * (*greatest - *least);
+        *least -= room;
+        *greatest += room;
+    }
+}
+
+static void draw_spans(const struct drawn *row, int top, int bottom)
+{
+    unsigned kind, i;
+    for (kind = 0; kind < SPAN_KINDS; kind++)
+        for (i = 0; i < row->spans[kind].count; i++) {
+            int64_t from = row->spans[kind].of[i].from, to = row->spans[kind].of[i].to;
+            double length = x_of(to) - x_of(from);
+            fprintf(out, "<rect x=\"%.1f\" y=\"%d\" width=\"%.1f\" height=\"%d\" fill=\"%s\" fill-opacity=\"0.28\"><title>"
+                         "%s from %" PRId64 " to %" PRId64 " ns</title></rect>\n",
+                x_of(from), top, length < 1.5 ? 1.5 : length, bottom - top, span_fills[kind], span_names[kind], from, to);
+        }
+}
+
+static void draw_d_axis(double least, double greatest, int top)
+{
+    struct unit unit = unit_for(fmax(-least, greatest));
+    double step = step_for((greatest - least) / unit.size, 5), tick;
+    for (tick = ceil(least / unit.size / step) * step; tick * unit.size <= greatest; tick += step) {
+        double y = top + PLOT * (greatest - tick * unit.size) / (greatest - least);
+        fprintf(out, "<line x1=\"%d\" y1=\"%.1f\" x2=\"%d\" y2=\"%.1f\" class=\"%s\"/>\n", LEFT, y, RIGHT, y,
+            fabs(tick) < step / 2 ? "zero" : "grid");
+        fprintf(out, "<text x=\"%d\" y=\"%.1f\" class=\"tick\" text-anchor=\"end\">%g</text>\n", LEFT - 6, y + 4,
+            fabs(tick) < step / 2 ? 0 : tick);
+    }
+    fprintf(out, "<text x=\"12\" y=\"%d\" class=\"tick\">D, %s</text>\n", top + 28, unit.name);
+}
+
+static void draw_updates(const struct drawn *row, double least, double greatest, int top)
+{
+    double scale = PLOT / (greatest - least);
+    unsigned i;
+    for (i = 0; i < PIECES; i++) {
+        const struct mark *low = &row->pieces[i].least, *high = &row->pieces[i].greatest, *first = &row->pieces[i].first;
+        double y_low = top + (greatest - (double)low->d) * scale, y_high = top + (greatest - (double)high->d) * scale;
+        if (first->count > 0)
+            fprintf(out, "<circle cx=\"%.1f\" cy=\"%.1f\" r=\"3.5\" fill=\"white\" stroke=\"%s\" stroke-width=\"1.5\">"
+                         "<title>line %" PRIu64 ": the first time, no D</title></circle>\n",
+                x_of(first->at), top + greatest * scale, update_colour, first->line);
+        if (low->count == 0)
+            continue;
+        if (low->count > 1)
+            fprintf(out, "<line x1=\"%.1f\" y1=\"%.1f\" x2=\"%.1f\" y2=\"%.1f\" stroke=\"%s\"><title>%" PRIu64
+                         " updates, D %" PRId64 " to %" PRId64 " ns</title></line>\n",
+                x_of(low->at), y_low, x_of(high->at), y_high, update_colour, low->count, low->d, high->d);
+        fprintf(out, "<circle cx=\"%.1f\" cy=\"%.1f\" r=\"3\" fill=\"%s\"><title>line %" PRIu64 ": D %" PRId64
+                     " ns</title></circle>\n", x_of(low->at), y_low, update_colour, low->line, low->d);
+        if (high->line != low->line)
+            fprintf(out, "<circle cx=\"%.1f\" cy=\"%.1f\" r=\"3\" fill=\"%s\"><title>line %" PRIu64 ": D %" PRId64
+                         " ns</title></circle>\n", x_of(high->at), y_high, update_colour, high->line, high->d);
+    }
+}
+
+/* The refused frames, a lane for each number. Where the last lane ends. */
+static int draw_lanes(const struct row *counts, const struct drawn *row, int top)
+{
+    unsigned number, i;
+    for (number = 1; number < NUMBERS; number++) {
+        if (counts->by_number[number] == 0)
+            continue;
+        fprintf(out, "<text x=\"%d\" y=\"%d\" class=\"tick\" text-anchor=\"end\" style=\"fill:%s\">%u %s</text>\n", LEFT - 6,
+            top + LANE - 4, colours[number], number, words_of_numbers[number]);
+        fprintf(out, "<line x1=\"%d\" y1=\"%.1f\" x2=\"%d\" y2=\"%.1f\" class=\"grid\"/>\n", LEFT, top + LANE / 2.0, RIGHT,
+            top + LANE / 2.0);
+        for (i = 0; i < PIECES; i++) {
+            const struct mark *mark = &row->pieces[i].refused[number];
+            if (mark->count == 0)
+                continue;
+            fprintf(out, "<rect x=\"%.1f\" y=\"%d\" width=\"2.4\" height=\"%d\" fill=\"%s\"><title>line %" PRIu64
+                         ": refused by %u, %s", x_of(mark->at) - 1.2, top + 2, LANE - 4, colours[number], mark->line,
+                number, words_of_numbers[number]);
+            if (mark->count > 1)
+                fprintf(out, ", the first of %" PRIu64 " here", mark->count);
+            fputs("</title></rect>\n", out);
+        }
+        top += LANE;
+    }
+    return top;
+}
+
+/* How high a row is. */
+static int height_of(const struct account *account, unsigned row)
+{
+    unsigned number;
+    int height = row == NO_DOMAIN ? 18 : PLOT + 4;
+    for (number = 1; number < NUMBERS; number++)
+        if (account->rows[row].by_number[number] > 0)
+            height += LANE;
+    return height;
+}
+
+static void draw_row(const struct account *account, unsigned row, int top)
+{
+    int bottom = top + height_of(account, row);
+    double least, greatest;
+    if (row == NO_DOMAIN) {
+        fprintf(out, "<text x=\"12\" y=\"%d\" class=\"name\">no domain</text>\n", top + 12);
+        draw_lanes(&account->rows[row], &rows[row], top + 18);
+    } else {
+        range_of(&account->rows[row], &least, &greatest);
+        fprintf(out, "<text x=\"12\" y=\"%d\" class=\"name\">domain %u</text>\n", top + 12, row);
+        draw_spans(&rows[row], top, bottom);
+        if (account->rows[row].moves > 0) {
+            draw_d_axis(least, greatest, top);
+        } else {
+            least = -1;
+            greatest = 1;
+            fprintf(out, "<line x1=\"%d\" y1=\"%d\" x2=\"%d\" y2=\"%d\" class=\"zero\"/>\n", LEFT, top + PLOT / 2, RIGHT,
+                top + PLOT / 2);
+            fprintf(out, "<text x=\"12\" y=\"%d\" class=\"tick\">%s</text>\n", top + 28,
+                has_d(&rows[row]) ? "no D" : "never set");
+        }
+        draw_updates(&rows[row], least, greatest, top);
+        draw_lanes(&account->rows[row], &rows[row], top + PLOT + 4);
+    }
+    fprintf(out, "<rect x=\"%d\" y=\"%d\" width=\"%d\" height=\"%d\" fill=\"none\" stroke=\"#444\"/>\n", LEFT, top,
+        RIGHT - LEFT, bottom - top);
+}
+
+/* ---- The page. */
+
+static void draw_time_axis(int top, int bottom)
+{
+    struct unit unit = unit_of_time(across);
+    double step = step_for(across / unit.size, 10), tick;
+    for (tick = 0; tick * unit.size <= across * 1.0001; tick += step) {
+        double x = LEFT + (RIGHT - LEFT) * (tick * unit.size / across);
+        fprintf(out, "<line x1=\"%.1f\" y1=\"%d\" x2=\"%.1f\" y2=\"%d\" class=\"grid\"/>\n", x, top, x, bottom + 5);
+        fprintf(out, "<text x=\"%.1f\" y=\"%d\" class=\"tick\" text-anchor=\"middle\">%g</text>\n", x, bottom + 19, tick);
+    }
+    fprintf(out, "<text x=\"%d\" y=\"%d\" class=\"tick\" text-anchor=\"middle\">reading since the first line of the log, %s"
+                 "</text>\n", (LEFT + RIGHT) / 2, bottom + 37, unit.name);
+}
+
+/* The legend's entries, one after another in lines as wide as the page. */
+struct place {
+    int x, y;
+};
+
+static void next_place(struct place *place, const char *text)
+{
+    place->x += 34 + (int)(6.7 * (double)strlen(text));
+    if (place->x > RIGHT - 160) {
+        place->x = 12;
+        place->y += 20;
+    }
+}
+
+static void put_legend_text(struct place *place, const char *text)
+{
+    fprintf(out, "<text x=\"%d\" y=\"%d\" class=\"tick\">%s</text>\n", place->x + 20, place->y + 4, text);
+    next_place(place, text);
+}
+
+/* The legend from this height on; where it ends. */
+static int draw_legend(const struct account *account, int top)
+{
+    struct place place = {12, top};
+    unsigned i;
+    char text[64];
+    fprintf(out, "<circle cx=\"%d\" cy=\"%d\" r=\"3\" fill=\"%s\"/>\n", place.x + 8, place.y, update_colour);
+    put_legend_text(&place, "update, at its D");
+    fprintf(out, "<circle cx=\"%d\" cy=\"%d\" r=\"3.5\" fill=\"white\" stroke=\"%s\" stroke-width=\"1.5\"/>\n", place.x + 8,
+        place.y, update_colour);
+    put_legend_text(&place, "first time, no D");
+    for (i = 1; i < NUMBERS; i++) {
+        if (!has_number(account, i))
+            continue;
+        fprintf(out, "<rect x=\"%d\" y=\"%d\" width=\"2.4\" height=\"11\" fill=\"%s\"/>\n", place.x + 8, place.y - 6,
+            colours[i]);
+        snprintf(text, sizeof text, "refused by %u, %s", i, words_of_numbers[i]);
+        put_legend_text(&place, text);
+    }
+    for (i = 0; i < SPAN_KINDS; i++) {
+        if (!has_span(account, i))
+            continue;
+        fprintf(out, "<rect x=\"%d\" y=\"%d\" width=\"16\" height=\"12\" fill=\"%s\" fill-opacity=\"0.28\" stroke=\"#999\"/>\n",
+            place.x, place.y - 6, span_fills[i]);
+        put_legend_text(&place, span_names[i]);
+    }
+    return place.y + 20;
+}
+
+static void draw_head(const char *name, const struct account *account, int height)
+{
+    const char *behind = strrchr(name, '/');
+    uint64_t frames = 0, taken = 0;
+    unsigned row;
+    for (row = 0; row < ROWS; row++) {
+        frames += account->rows[row].frames;
+        taken += account->rows[row].by_number[0];
+    }
+    fprintf(out, "<svg xmlns=\"http://www.w3.org/2000/svg\" width=\"%d\" height=\"%d\" viewBox=\"0 0 %d %d\">\n", PAGE, height,
+        PAGE, height);
+    fputs("<style>text{font-family:sans-serif;fill:#222}.tick{font-size:12px}.name{font-size:14px;font-weight:bold}"
+          ".grid{stroke:#ddd}.zero{stroke:#888}</style>\n", out);
+    fprintf(out, "<rect width=\"%d\" height=\"%d\" fill=\"white\"/>\n<text x=\"12\" y=\"26\" font-size=\"17\">", PAGE, height);
+    put_escaped(strcmp(name, "-") == 0 ? "standard input" : behind != NULL ? behind + 1 : name);
+    fprintf(out, "</text>\n<text x=\"12\" y=\"46\" class=\"tick\">%" PRIu64 " lines, %" PRIu64 " frames: %" PRIu64
+                 " taken, %" PRIu64 " refused</text>\n", account->lines, frames, taken, frames - taken);
+}
+
+void picture_end(const char *name, const struct account *account, int64_t end)
+{
+    int top = TOP, bottom = TOP, height;
+    unsigned row;
+    if (path == NULL)
+        return;
+    out = fopen(path, "wb");
+    if (out == NULL)
+        fail(2, "cannot write '%s': %s", path, strerror(errno));
+    across = end > 0 ? (double)end : 1e9;
+    for (row = 0; row < ROWS; row++)
+        if (account->rows[row].shown)
+            bottom += height_of(account, row) + GAP;
+    height = bottom + 120;
+    draw_head(name, account, height);
+    draw_time_axis(TOP, bottom - GAP);
+    for (row = 0; row < ROWS; row++)
+        if (account->rows[row].shown) {
+            draw_row(account, row, top);
+            top += height_of(account, row) + GAP;
+        }
+    draw_legend(account, bottom + 34);
+    fputs("</svg>\n", out);
+    if (ferror(out) || fclose(out) != 0)
+        fail(2, "cannot write '%s'", path);
+}
