@@ -172,14 +172,16 @@ enum {
     PAGE = 1000,
     LEFT = 132,
     RIGHT = 976,
+    EDGE = 6, /* what stands free at both ends of the time axis */
     TOP = 70,
     PLOT = 120, /* the height of the D of a row */
+    UNPLOTTED = 18, /* of what a row without an update has in its place */
     LANE = 15, /* of the refused frames under one number */
     GAP = 30 /* between rows */
 };
 
 static const char *const span_names[SPAN_KINDS] = {"TIMEOUT shows", "leap into the future shows", "leap into the past shows"};
-static const char *const span_fills[SPAN_KINDS] = {"#9a9a9a", "#e69f00", "#b66dff"};
+static const char *const span_fills[SPAN_KINDS] = {"url(#hatched)", "#f9e2b0", "#e6d3fb"};
 
 /* A colour for each number that a frame may be refused by. */
 static const char *const colours[NUMBERS] = {
@@ -190,11 +192,11 @@ static const char *const colours[NUMBERS] = {
 static const char update_colour[] = "#0072b2";
 
 static FILE *out;
-static double across; /* how many nanoseconds the width of the page shows */
+static double across; /* how many nanoseconds the time axis has */
 
-static double x_of(int64_t at)
+static double x_of(double at)
 {
-    return LEFT + (RIGHT - LEFT) * ((double)at / across);
+    return LEFT + EDGE + (RIGHT - LEFT - 2 * EDGE) * (at / across);
 }
 
 /* A unit, and how many nanoseconds it has. */
@@ -251,12 +253,24 @@ static void put_escaped(const char *text)
         }
 }
 
-static bool has_d(const struct drawn *row)
+/* Whether a row has an update, and so a plot of D. */
+static bool is_updated(unsigned row)
 {
     unsigned i;
     for (i = 0; i < PIECES; i++)
-        if (row->pieces[i].least.count + row->pieces[i].first.count > 0)
+        if (rows[row].pieces[i].least.count + rows[row].pieces[i].first.count > 0)
             return true;
+    return false;
+}
+
+/* Whether a mark stands for several updates. */
+static bool has_several(void)
+{
+    unsigned row, i;
+    for (row = 0; row < DOMAINS; row++)
+        for (i = 0; i < PIECES; i++)
+            if (rows[row].pieces[i].least.count > 1)
+                return true;
     return false;
 }
 
@@ -277,8 +291,8 @@ static void range_of(const struct row *row, double *least, double *greatest)
     *least = row->moves > 0 && row->least < 0 ? (double)row->least : 0;
     *greatest = row->moves > 0 && row->greatest > 0 ? (double)row->greatest : 0;
     if (*greatest - *least < 2) {
-        *least -= 1;
-        *greatest += 1;
+        *least -= 1.25;
+        *greatest += 1.25;
     } else {
         double room = 0.08 * (*greatest - *least);
         *least -= room;
@@ -289,13 +303,13 @@ static void range_of(const struct row *row, double *least, double *greatest)
 static void draw_spans(const struct drawn *row, int top, int bottom)
 {
     unsigned kind, i;
-    for (kind = 0; kind < SPAN_KINDS; kind++)
+    for (kind = SPAN_KINDS; kind-- > 0;) /* TIMEOUT over the others, which its lines leave to be seen */
         for (i = 0; i < row->spans[kind].count; i++) {
             int64_t from = row->spans[kind].of[i].from, to = row->spans[kind].of[i].to;
-            double length = x_of(to) - x_of(from);
-            fprintf(out, "<rect x=\"%.1f\" y=\"%d\" width=\"%.1f\" height=\"%d\" fill=\"%s\" fill-opacity=\"0.28\"><title>"
+            double length = x_of((double)to) - x_of((double)from);
+            fprintf(out, "<rect x=\"%.1f\" y=\"%d\" width=\"%.1f\" height=\"%d\" fill=\"%s\"><title>"
                          "%s from %" PRId64 " to %" PRId64 " ns</title></rect>\n",
-                x_of(from), top, length < 1.5 ? 1.5 : length, bottom - top, span_fills[kind], span_names[kind], from, to);
+                x_of((double)from), top, length < 1.5 ? 1.5 : length, bottom - top, span_fills[kind], span_names[kind], from, to);
         }
 }
 
@@ -318,28 +332,36 @@ static void draw_updates(const struct drawn *row, double least, double greatest,
     double scale = PLOT / (greatest - least);
     unsigned i;
     for (i = 0; i < PIECES; i++) {
-        const struct mark *low = &row->pieces[i].least, *high = &row->pieces[i].greatest, *first = &row->pieces[i].first;
+        const struct mark *low = &row->pieces[i].least, *high = &row->pieces[i].greatest;
         double y_low = top + (greatest - (double)low->d) * scale, y_high = top + (greatest - (double)high->d) * scale;
-        if (first->count > 0)
-            fprintf(out, "<circle cx=\"%.1f\" cy=\"%.1f\" r=\"3.5\" fill=\"white\" stroke=\"%s\" stroke-width=\"1.5\">"
-                         "<title>line %" PRIu64 ": the first time, no D</title></circle>\n",
-                x_of(first->at), top + greatest * scale, update_colour, first->line);
         if (low->count == 0)
             continue;
         if (low->count > 1)
-            fprintf(out, "<line x1=\"%.1f\" y1=\"%.1f\" x2=\"%.1f\" y2=\"%.1f\" stroke=\"%s\"><title>%" PRIu64
-                         " updates, D %" PRId64 " to %" PRId64 " ns</title></line>\n",
-                x_of(low->at), y_low, x_of(high->at), y_high, update_colour, low->count, low->d, high->d);
-        fprintf(out, "<circle cx=\"%.1f\" cy=\"%.1f\" r=\"3\" fill=\"%s\"><title>line %" PRIu64 ": D %" PRId64
-                     " ns</title></circle>\n", x_of(low->at), y_low, update_colour, low->line, low->d);
-        if (high->line != low->line)
+            fprintf(out, "<line x1=\"%.1f\" y1=\"%.1f\" x2=\"%.1f\" y2=\"%.1f\" class=\"several\"><title>%" PRIu64
+                         " updates: D %" PRId64 " ns at line %" PRIu64 " to %" PRId64 " ns at line %" PRIu64 "</title></line>\n",
+                x_of((double)low->at), y_low, x_of((double)high->at), y_high, low->count, low->d, low->line, high->d,
+                high->line);
+        else
             fprintf(out, "<circle cx=\"%.1f\" cy=\"%.1f\" r=\"3\" fill=\"%s\"><title>line %" PRIu64 ": D %" PRId64
-                         " ns</title></circle>\n", x_of(high->at), y_high, update_colour, high->line, high->d);
+                         " ns</title></circle>\n", x_of((double)low->at), y_low, update_colour, low->line, low->d);
     }
 }
 
-/* The refused frames, a lane for each number. Where the last lane ends. */
-static int draw_lanes(const struct row *counts, const struct drawn *row, int top)
+/* A domain's first time stands on the line of 0, over the updates. */
+static void draw_first(const struct drawn *row, double least, double greatest, int top)
+{
+    unsigned i;
+    for (i = 0; i < PIECES; i++) {
+        const struct mark *first = &row->pieces[i].first;
+        if (first->count > 0)
+            fprintf(out, "<circle cx=\"%.1f\" cy=\"%.1f\" r=\"3.5\" fill=\"white\" stroke=\"%s\" stroke-width=\"1.5\">"
+                         "<title>line %" PRIu64 ": the first time, no D</title></circle>\n",
+                x_of((double)first->at), top + PLOT * greatest / (greatest - least), update_colour, first->line);
+    }
+}
+
+/* The refused frames, a lane for each number. */
+static void draw_lanes(const struct row *counts, const struct drawn *row, int top)
 {
     unsigned number, i;
     for (number = 1; number < NUMBERS; number++) {
@@ -354,7 +376,7 @@ static int draw_lanes(const struct row *counts, const struct drawn *row, int top
             if (mark->count == 0)
                 continue;
             fprintf(out, "<rect x=\"%.1f\" y=\"%d\" width=\"2.4\" height=\"%d\" fill=\"%s\"><title>line %" PRIu64
-                         ": refused by %u, %s", x_of(mark->at) - 1.2, top + 2, LANE - 4, colours[number], mark->line,
+                         ": refused by %u, %s", x_of((double)mark->at) - 1.2, top + 2, LANE - 4, colours[number], mark->line,
                 number, words_of_numbers[number]);
             if (mark->count > 1)
                 fprintf(out, ", the first of %" PRIu64 " here", mark->count);
@@ -362,46 +384,44 @@ static int draw_lanes(const struct row *counts, const struct drawn *row, int top
         }
         top += LANE;
     }
-    return top;
 }
 
 /* How high a row is. */
 static int height_of(const struct account *account, unsigned row)
 {
     unsigned number;
-    int height = row == NO_DOMAIN ? 18 : PLOT + 4;
+    int height = is_updated(row) ? PLOT + 4 : UNPLOTTED;
     for (number = 1; number < NUMBERS; number++)
         if (account->rows[row].by_number[number] > 0)
             height += LANE;
     return height;
 }
 
+static void draw_plot(const struct account *account, unsigned row, int top)
+{
+    double least, greatest;
+    range_of(&account->rows[row], &least, &greatest);
+    draw_spans(&rows[row], top, top + height_of(account, row));
+    draw_d_axis(least, greatest, top);
+    draw_updates(&rows[row], least, greatest, top);
+    draw_first(&rows[row], least, greatest, top);
+}
+
 static void draw_row(const struct account *account, unsigned row, int top)
 {
-    int bottom = top + height_of(account, row);
-    double least, greatest;
-    if (row == NO_DOMAIN) {
-        fprintf(out, "<text x=\"12\" y=\"%d\" class=\"name\">no domain</text>\n", top + 12);
-        draw_lanes(&account->rows[row], &rows[row], top + 18);
-    } else {
-        range_of(&account->rows[row], &least, &greatest);
-        fprintf(out, "<text x=\"12\" y=\"%d\" class=\"name\">domain %u</text>\n", top + 12, row);
-        draw_spans(&rows[row], top, bottom);
-        if (account->rows[row].moves > 0) {
-            draw_d_axis(least, greatest, top);
-        } else {
-            least = -1;
-            greatest = 1;
-            fprintf(out, "<line x1=\"%d\" y1=\"%d\" x2=\"%d\" y2=\"%d\" class=\"zero\"/>\n", LEFT, top + PLOT / 2, RIGHT,
-                top + PLOT / 2);
-            fprintf(out, "<text x=\"12\" y=\"%d\" class=\"tick\">%s</text>\n", top + 28,
-                has_d(&rows[row]) ? "no D" : "never set");
-        }
-        draw_updates(&rows[row], least, greatest, top);
+    int height = height_of(account, row);
+    if (row == NO_DOMAIN)
+        fprintf(out, "<text x=\"12\" y=\"%d\" class=\"name\">no domain</text>\n", top + 13);
+    else
+        fprintf(out, "<text x=\"12\" y=\"%d\" class=\"name\">domain %u</text>\n", top + 13, row);
+    if (is_updated(row)) {
+        draw_plot(account, row, top);
         draw_lanes(&account->rows[row], &rows[row], top + PLOT + 4);
+    } else {
+        draw_lanes(&account->rows[row], &rows[row], top + UNPLOTTED);
     }
     fprintf(out, "<rect x=\"%d\" y=\"%d\" width=\"%d\" height=\"%d\" fill=\"none\" stroke=\"#444\"/>\n", LEFT, top,
-        RIGHT - LEFT, bottom - top);
+        RIGHT - LEFT, height);
 }
 
 /* ---- The page. */
@@ -411,7 +431,7 @@ static void draw_time_axis(int top, int bottom)
     struct unit unit = unit_of_time(across);
     double step = step_for(across / unit.size, 10), tick;
     for (tick = 0; tick * unit.size <= across * 1.0001; tick += step) {
-        double x = LEFT + (RIGHT - LEFT) * (tick * unit.size / across);
+        double x = x_of(tick * unit.size);
         fprintf(out, "<line x1=\"%.1f\" y1=\"%d\" x2=\"%.1f\" y2=\"%d\" class=\"grid\"/>\n", x, top, x, bottom + 5);
         fprintf(out, "<text x=\"%.1f\" y=\"%d\" class=\"tick\" text-anchor=\"middle\">%g</text>\n", x, bottom + 19, tick);
     }
@@ -439,14 +459,19 @@ static void put_legend_text(struct place *place, const char *text)
     next_place(place, text);
 }
 
-/* The legend from this height on; where it ends. */
-static int draw_legend(const struct account *account, int top)
+/* The legend, from this height on. */
+static void draw_legend(const struct account *account, int top)
 {
     struct place place = {12, top};
     unsigned i;
     char text[64];
     fprintf(out, "<circle cx=\"%d\" cy=\"%d\" r=\"3\" fill=\"%s\"/>\n", place.x + 8, place.y, update_colour);
     put_legend_text(&place, "update, at its D");
+    if (has_several()) {
+        fprintf(out, "<line x1=\"%d\" y1=\"%d\" x2=\"%d\" y2=\"%d\" class=\"several\"/>\n", place.x + 8, place.y - 5,
+            place.x + 8, place.y + 5);
+        put_legend_text(&place, "several, from the least D to the greatest");
+    }
     fprintf(out, "<circle cx=\"%d\" cy=\"%d\" r=\"3.5\" fill=\"white\" stroke=\"%s\" stroke-width=\"1.5\"/>\n", place.x + 8,
         place.y, update_colour);
     put_legend_text(&place, "first time, no D");
@@ -461,11 +486,10 @@ static int draw_legend(const struct account *account, int top)
     for (i = 0; i < SPAN_KINDS; i++) {
         if (!has_span(account, i))
             continue;
-        fprintf(out, "<rect x=\"%d\" y=\"%d\" width=\"16\" height=\"12\" fill=\"%s\" fill-opacity=\"0.28\" stroke=\"#999\"/>\n",
+        fprintf(out, "<rect x=\"%d\" y=\"%d\" width=\"16\" height=\"12\" fill=\"%s\" stroke=\"#999\"/>\n",
             place.x, place.y - 6, span_fills[i]);
         put_legend_text(&place, span_names[i]);
     }
-    return place.y + 20;
 }
 
 static void draw_head(const char *name, const struct account *account, int height)
@@ -480,7 +504,9 @@ static void draw_head(const char *name, const struct account *account, int heigh
     fprintf(out, "<svg xmlns=\"http://www.w3.org/2000/svg\" width=\"%d\" height=\"%d\" viewBox=\"0 0 %d %d\">\n", PAGE, height,
         PAGE, height);
     fputs("<style>text{font-family:sans-serif;fill:#222}.tick{font-size:12px}.name{font-size:14px;font-weight:bold}"
-          ".grid{stroke:#ddd}.zero{stroke:#888}</style>\n", out);
+          ".grid{stroke:#ddd}.zero{stroke:#888}.several{stroke:#0072b2;stroke-width:2;stroke-linecap:round}</style>\n"
+          "<pattern id=\"hatched\" width=\"6\" height=\"6\" patternUnits=\"userSpaceOnUse\" patternTransform=\"rotate(45)\">"
+          "<rect width=\"2\" height=\"6\" fill=\"#999\" fill-opacity=\"0.6\"/></pattern>\n", out);
     fprintf(out, "<rect width=\"%d\" height=\"%d\" fill=\"white\"/>\n<text x=\"12\" y=\"26\" font-size=\"17\">", PAGE, height);
     put_escaped(strcmp(name, "-") == 0 ? "standard input" : behind != NULL ? behind + 1 : name);
     fprintf(out, "</text>\n<text x=\"12\" y=\"46\" class=\"tick\">%" PRIu64 " lines, %" PRIu64 " frames: %" PRIu64
@@ -500,7 +526,9 @@ void picture_end(const char *name, const struct account *account, int64_t end)
     for (row = 0; row < ROWS; row++)
         if (account->rows[row].shown)
             bottom += height_of(account, row) + GAP;
-    height = bottom + 120;
+    if (bottom == TOP)
+        bottom += GAP; /* no row */
+    height = bottom + 130;
     draw_head(name, account, height);
     draw_time_axis(TOP, bottom - GAP);
     for (row = 0; row < ROWS; row++)
