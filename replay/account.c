@@ -6,8 +6,22 @@
 #include <string.h>
 
 const char *const words_of_numbers[NUMBERS] = {
-    "taken", "reading", "length", "type", "domain", "check", "counter", "no open pair", "other counter", "nanoseconds",
-    "never set", "no open SYNC", "no room", "", "settings", "row",
+    "taken",
+    "reading",
+    "length",
+    "type",
+    "domain",
+    "check",
+    "counter",
+    "no open pair",
+    "other counter",
+    "nanoseconds",
+    "never set",
+    "no open SYNC",
+    "no room",
+    "",
+    "settings",
+    "row",
 };
 
 struct meaning meaning_of(const uint8_t *bytes, unsigned length)
@@ -99,30 +113,33 @@ static void next_line(struct table *table)
     table->column = 0;
 }
 
+static void put_three(struct table *table, const char *const texts[3])
+{
+    unsigned i;
+    for (i = 0; i < 3; i++)
+        put_text(table, texts[i]);
+}
+
 /* The two lines over the rows: a column for each number that some frame was refused by. */
 static void put_heads(struct table *table, const struct account *account)
 {
-    static const char *const upper[] = {"domain", "frames", "taken"}, *const behind[] = {"leaps", "least D", "greatest D"};
-    static const char *const lower[] = {"", "ns", "ns"};
-    unsigned number, i;
+    static const char *const before[2][3] = {{"domain", "frames", "taken"}, {"", "", ""}};
+    static const char *const behind[2][3] = {{"leaps", "least D", "greatest D"}, {"", "ns", "ns"}};
+    unsigned number;
     char text[CELL];
-    for (i = 0; i < 3; i++)
-        put_text(table, upper[i]);
+    put_three(table, before[0]);
     for (number = 1; number < NUMBERS; number++) {
         snprintf(text, sizeof text, "refused %u", number);
         if (has_number(account, number))
             put_text(table, text);
     }
-    for (i = 0; i < 3; i++)
-        put_text(table, behind[i]);
+    put_three(table, behind[0]);
     next_line(table);
-    for (i = 0; i < 3; i++)
-        put_text(table, "");
+    put_three(table, before[1]);
     for (number = 1; number < NUMBERS; number++)
         if (has_number(account, number))
             put_text(table, words_of_numbers[number]);
-    for (i = 0; i < 3; i++)
-        put_text(table, lower[i]);
+    put_three(table, behind[1]);
     next_line(table);
 }
 
@@ -170,7 +187,12 @@ static void say_table(const struct table *table)
 void say_account(const struct account *account)
 {
     static const char *const passed[PASSED] = {
-        "other interface", "other identifier", "remote", "error", "CAN FD or XL", "none",
+        "other interface",
+        "other identifier",
+        "remote",
+        "error",
+        "CAN FD or XL",
+        "none",
     };
     static struct table table;
     struct row all = all_of(account);

@@ -80,10 +80,11 @@ static bool take_spaces(struct text *text)
     return taken;
 }
 
+/* A word of signs that can be printed. */
 static struct text take_word(struct text *text)
 {
     struct text word = {text->at, 0};
-    while (word.length < text->length && word.at[word.length] != ' ' && word.at[word.length] != '\t')
+    while (word.length < text->length && word.at[word.length] > ' ' && word.at[word.length] <= '~')
         word.length++;
     text->at += word.length;
     text->length -= word.length;

@@ -54,8 +54,8 @@ struct line {
 /* What the text says. A remote frame, an error frame and one of CAN FD or CAN XL have no bytes here. */
 struct line line_of(struct text text);
 
-/* An identifier as a person writes it: up to eight hexadecimal digits, with or without 0x before them. One above 7FF, or
- * of eight digits, is extended, as in a log. */
+/* An identifier as a person writes it: up to eight hexadecimal digits, with or without 0x before them. One above 7FF,
+ * or of eight digits, is extended, as in a log. */
 bool id_of(const char *text, uint32_t *id, bool *extended);
 
 #endif

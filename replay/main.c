@@ -6,6 +6,7 @@
  */
 #include <errno.h>
 #include <fcntl.h>
+#include <signal.h>
 #include <string.h>
 #include <unistd.h>
 
@@ -43,6 +44,7 @@ int main(int count, char **words)
     static struct call call;
     bool send = false;
     int option;
+    signal(SIGPIPE, SIG_IGN); /* a pipe that nobody reads is an error of the write to it */
     while ((option = getopt(count, words, "d:i:s:p:grw")) != -1)
         switch (option) {
         case 'd':

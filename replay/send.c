@@ -73,10 +73,11 @@ int send_log(const struct call *call)
     while (take_item(input, &have)) {
         trial_ask_item(item, have);
         trial_exchange();
-        line = trial_line();
+        line = trial_line_or_bad();
         if (line == NULL)
             fail(1, "a record has a wrong mark or kind: those before it were sent");
         say_frames(call, line);
+        flush_lines();
     }
     if (ferror(input))
         fail(2, "cannot read '%s'", call->input);

@@ -38,6 +38,15 @@ void fail(int status, const char *what, ...)
     exit(status);
 }
 
+void flush_lines(void)
+{
+    if (fflush(stdout) == 0 && !ferror(stdout))
+        return;
+    if (errno == EPIPE)
+        exit(3);
+    fail(3, "cannot write: %s", strerror(errno));
+}
+
 static void make_room(struct bytes *bytes, size_t more)
 {
     size_t room = bytes->room;
@@ -144,7 +153,7 @@ static char *next_line(void)
     return line;
 }
 
-const char *trial_line(void)
+const char *trial_line_or_bad(void)
 {
     char *line = next_line(), *behind;
     if (line == NULL)
@@ -155,6 +164,14 @@ const char *trial_line(void)
     if (strtoull(line, &behind, 10) != item || *behind != ' ')
         fail(3, "the trial answered '%s' to item %" PRIu64, line, item);
     return behind + 1;
+}
+
+const char *trial_line(void)
+{
+    const char *line = trial_line_or_bad();
+    if (line == NULL)
+        fail(3, "the trial took item %" PRIu64 " for a bad record", item);
+    return line;
 }
 
 /* ---- Lines as values. */

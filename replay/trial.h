@@ -19,7 +19,7 @@ enum {
     DOMAINS = 16
 };
 
-/* A call record by its fields; `payload` is eight bytes, or NULL for zeros. Its answer is the next of `trial_exchange`. */
+/* A call record by its fields; `payload` is eight bytes, or NULL for zeros. */
 void trial_ask(unsigned kind, unsigned domain, uint64_t reading, const uint8_t *payload);
 
 /* An item as it stands. */
@@ -28,9 +28,11 @@ void trial_ask_item(const uint8_t *item, size_t length);
 /* Hands all items over that were asked, and takes a line for each. */
 void trial_exchange(void);
 
-/* The next of these lines, behind its item's number. A record that is none has no such line: NULL. */
-const char *trial_line(void);
+/* The next of these lines, behind its item's number; NULL where the item has a wrong mark or kind. */
+const char *trial_line_or_bad(void);
 
+/* The next of these lines, of an item that has a right mark and kind. */
+const char *trial_line(void);
 
 /* ---- Lines as values. */
 
@@ -50,7 +52,12 @@ struct shown shown_in(const char *line);
 /* Numbers of an item, big-endian. */
 uint64_t number_at(const uint8_t *bytes, size_t count);
 
+/* ---- The run's end, and what it has written. */
+
 /* Ends the run with a word on the error output: with 2, the call is wrong; with 3, the tool or the trial failed. */
 void fail(int status, const char *what, ...);
+
+/* Sees that what was printed is written; ends the run where it is not, without a word where nobody reads on. */
+void flush_lines(void);
 
 #endif
