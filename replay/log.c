@@ -190,6 +190,8 @@ static const char *take_frame(struct text *text, struct line *line)
     static const char no_id[] = "no identifier of 3 or 8 hexadecimal digits with a '#' behind it";
     int64_t id;
     unsigned digits = take_number(text, 16, 9, &id);
+    if (take_spaces(text))
+        return take(text, '[') ? "written by candump without -L" : no_id;
     if (!take(text, '#'))
         return no_id;
     if (digits == 5) {
