@@ -55,34 +55,28 @@ struct unit {
     double size, most; /* it is used for lengths below `most` */
 };
 
-static struct unit unit_for(double length)
-{
-    static const struct unit units[] = {
-        {"ns", 1, 1e4},
-        {"µs", 1e3, 1e7},
-        {"ms", 1e6, 1e10},
-        {"s", 1e9, INFINITY},
-    };
-    unsigned i = 0;
-    while (length >= units[i].most)
-        i++;
-    return units[i];
-}
+/* Units of D, and of the time axis. */
+static const struct unit units_of_d[] = {
+    {"ns", 1, 1e4},
+    {"µs", 1e3, 1e7},
+    {"ms", 1e6, 1e10},
+    {"s", 1e9, INFINITY},
+};
+static const struct unit units_of_time[] = {
+    {"µs", 1e3, 2e6},
+    {"ms", 1e6, 2e9},
+    {"s", 1e9, 9e11},
+    {"min", 6e10, 1.8e13},
+    {"h", 3.6e12, 4.4e14},
+    {"days", 8.64e13, INFINITY},
+};
 
-static struct unit unit_of_time(double length)
+/* The one of these that a length is told in. */
+static struct unit unit_for(const struct unit *units, double length)
 {
-    static const struct unit units[] = {
-        {"µs", 1e3, 2e6},
-        {"ms", 1e6, 2e9},
-        {"s", 1e9, 9e11},
-        {"min", 6e10, 1.8e13},
-        {"h", 3.6e12, 4.4e14},
-        {"days", 8.64e13, INFINITY},
-    };
-    unsigned i = 0;
-    while (length >= units[i].most)
-        i++;
-    return units[i];
+    while (length >= units->most)
+        units++;
+    return *units;
 }
 
 /* A step of 1, 2 or 5 and zeros, of which at most `most` fit a length. */
@@ -174,7 +168,7 @@ static void draw_spans(const struct kept *row, int top, int bottom)
 
 static void draw_d_axis(double least, double greatest, int top)
 {
-    struct unit unit = unit_for(fmax(-least, greatest));
+    struct unit unit = unit_for(units_of_d, fmax(-least, greatest));
     double step = step_for((greatest - least) / unit.size, 5), tick;
     for (tick = ceil(least / unit.size / step) * step; tick * unit.size <= greatest; tick += step) {
         double y = top + PLOT * (greatest - tick * unit.size) / (greatest - least);
@@ -293,7 +287,7 @@ static void draw_row(const struct account *account, unsigned row, int top)
 
 static void draw_time_axis(int top, int bottom)
 {
-    struct unit unit = unit_of_time(across);
+    struct unit unit = unit_for(units_of_time, across);
     double step = step_for(across / unit.size, 10), tick;
     for (tick = 0; tick * unit.size <= across * 1.0001; tick += step) {
         double x = x_of(tick * unit.size);
