@@ -301,56 +301,65 @@ static void draw_time_axis(int top, int bottom)
         (LEFT + RIGHT) / 2, bottom + 37, unit.name);
 }
 
-/* The legend's entries, one after another in lines as wide as the page. */
+/* Where the next entry of the legend stands: one after another, in lines as wide as the page. */
 struct place {
     int x, y;
 };
 
-static void next_place(struct place *place, const char *text)
+static int width_of(const char *text)
 {
-    place->x += 34 + (int)(6.7 * (double)strlen(text));
-    if (place->x > RIGHT - 160) {
-        place->x = 12;
-        place->y += 20;
-    }
+    return 34 + (int)(6.7 * (double)strlen(text));
 }
 
-static void put_legend_text(struct place *place, const char *text)
+/* An entry's text; its sign is drawn at the place that is left, from `x` on. */
+static struct place put_entry(struct place *next, const char *text)
 {
-    fprintf(out, "<text x=\"%d\" y=\"%d\" class=\"tick\">%s</text>\n", place->x + 20, place->y + 4, text);
-    next_place(place, text);
+    struct place here;
+    if (next->x + width_of(text) > PAGE) {
+        next->x = 12;
+        next->y += 20;
+    }
+    here = *next;
+    fprintf(out, "<text x=\"%d\" y=\"%d\" class=\"tick\">%s</text>\n", here.x + 20, here.y + 4, text);
+    next->x += width_of(text);
+    return here;
+}
+
+static void put_update_entries(struct place *next)
+{
+    struct place at = put_entry(next, "update, at its D");
+    fprintf(out, "<circle cx=\"%d\" cy=\"%d\" r=\"3\" fill=\"%s\"/>\n", at.x + 8, at.y, update_colour);
+    if (has_several()) {
+        at = put_entry(next, "several, from the least D to the greatest");
+        fprintf(out, "<line x1=\"%d\" y1=\"%d\" x2=\"%d\" y2=\"%d\" class=\"several\"/>\n", at.x + 8, at.y - 5,
+            at.x + 8, at.y + 5);
+    }
+    at = put_entry(next, "first time, no D");
+    fprintf(out, "<circle cx=\"%d\" cy=\"%d\" r=\"3.5\" fill=\"white\" stroke=\"%s\" stroke-width=\"1.5\"/>\n",
+        at.x + 8, at.y, update_colour);
 }
 
 /* The legend, from this height on. */
 static void draw_legend(const struct account *account, int top)
 {
-    struct place place = {12, top};
+    struct place next = {12, top}, at;
     unsigned i;
     char text[64];
-    fprintf(out, "<circle cx=\"%d\" cy=\"%d\" r=\"3\" fill=\"%s\"/>\n", place.x + 8, place.y, update_colour);
-    put_legend_text(&place, "update, at its D");
-    if (has_several()) {
-        fprintf(out, "<line x1=\"%d\" y1=\"%d\" x2=\"%d\" y2=\"%d\" class=\"several\"/>\n", place.x + 8, place.y - 5,
-            place.x + 8, place.y + 5);
-        put_legend_text(&place, "several, from the least D to the greatest");
-    }
-    fprintf(out, "<circle cx=\"%d\" cy=\"%d\" r=\"3.5\" fill=\"white\" stroke=\"%s\" stroke-width=\"1.5\"/>\n",
-        place.x + 8, place.y, update_colour);
-    put_legend_text(&place, "first time, no D");
+    put_update_entries(&next);
     for (i = 1; i < NUMBERS; i++) {
         if (!has_number(account, i))
             continue;
-        fprintf(out, "<rect x=\"%d\" y=\"%d\" width=\"2.4\" height=\"11\" fill=\"%s\"/>\n", place.x + 8, place.y - 6,
-            colours[i]);
         snprintf(text, sizeof text, "refused by %u, %s", i, words_of_numbers[i]);
-        put_legend_text(&place, text);
+        at = put_entry(&next, text);
+        fprintf(
+            out, "<rect x=\"%d\" y=\"%d\" width=\"2.4\" height=\"11\" fill=\"%s\"/>\n", at.x + 8, at.y - 6, colours[i]);
     }
     for (i = 0; i < SPAN_KINDS; i++) {
         if (!has_span(account, i))
             continue;
-        fprintf(out, "<rect x=\"%d\" y=\"%d\" width=\"16\" height=\"12\" fill=\"%s\" stroke=\"#999\"/>\n", place.x,
-            place.y - 6, span_fills[i]);
-        put_legend_text(&place, span_names[i]);
+        at = put_entry(&next, span_names[i]);
+        fprintf(out, "<rect x=\"%d\" y=\"%d\" width=\"16\" height=\"12\" fill=\"%s\" stroke=\"#999\"/>\n", at.x,
+            at.y - 6, span_fills[i]);
     }
 }
 
