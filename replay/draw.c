@@ -88,20 +88,32 @@ static double step_for(double length, unsigned most)
     return step;
 }
 
-/* Text that stands in a picture as it is. */
+/* How many bytes the sign at the beginning of a text has in UTF-8; 0 where they are none. */
+static size_t sign_length(const unsigned char *text)
+{
+    size_t length = *text < 0x80 ? 1 : *text < 0xC2 ? 0 : *text < 0xE0 ? 2 : *text < 0xF0 ? 3 : *text < 0xF5 ? 4 : 0;
+    size_t i;
+    for (i = 1; i < length; i++)
+        if (text[i] / 0x40 != 2)
+            return 0;
+    return length;
+}
+
+/* Text as it stands; '?' for what no picture may have. */
 static void put_escaped(const char *text)
 {
-    for (; *text != 0; text++)
-        switch (*text) {
-        case '<':
+    size_t length;
+    for (; *text != 0; text += length > 0 ? length : 1) {
+        length = sign_length((const unsigned char *)text);
+        if (length == 0 || (unsigned char)*text < ' ')
+            fputc('?', out);
+        else if (*text == '<')
             fputs("&lt;", out);
-            break;
-        case '&':
+        else if (*text == '&')
             fputs("&amp;", out);
-            break;
-        default:
-            fputc((unsigned char)*text < ' ' ? '?' : *text, out);
-        }
+        else
+            fwrite(text, 1, length, out);
+    }
 }
 
 /* Whether a row has an update, and so a plot of D. */

@@ -5,6 +5,8 @@
 #include "log.h"
 
 #include <errno.h>
+#include <poll.h>
+#include <signal.h>
 #include <string.h>
 #include <unistd.h>
 
@@ -21,10 +23,39 @@ enum {
 
 /* ---- Lines of text. */
 
+static volatile sig_atomic_t interrupted;
+
+static void interrupt(int number)
+{
+    (void)number;
+    interrupted = 1;
+}
+
+void log_end_on_interrupt(void)
+{
+    struct sigaction action = {.sa_handler = interrupt, .sa_flags = SA_RESETHAND};
+    sigaction(SIGINT, &action, NULL);
+}
+
+/* What `read` gives, once there is something; 0 also after an interrupt. */
+static ssize_t read_some(int fd, char *to, size_t most)
+{
+    while (!interrupted) {
+        struct pollfd input = {.fd = fd, .events = POLLIN};
+        ssize_t count = read(fd, to, most);
+        if (count >= 0)
+            return count;
+        if (errno == EAGAIN)
+            poll(&input, 1, -1);
+        else if (errno != EINTR)
+            return count;
+    }
+    return 0;
+}
+
 bool log_refill(struct log *log)
 {
     ssize_t count;
-    errno = 0;
     if (log->ended)
         return false;
     memmove(log->held, log->held + log->from, log->to - log->from);
@@ -34,14 +65,13 @@ bool log_refill(struct log *log)
         log->too_long = true;
         log->to = 0;
     }
-    do
-        count = read(log->fd, log->held + log->to, sizeof log->held - log->to);
-    while (count < 0 && errno == EINTR);
+    count = read_some(log->fd, log->held + log->to, sizeof log->held - log->to);
+    if (count >= 0)
+        errno = 0;
     if (count <= 0) {
         log->ended = true;
         return false;
     }
-    errno = 0;
     log->to += (size_t)count;
     log->read += (uint64_t)count;
     return true;

@@ -33,6 +33,9 @@ struct text {
 /* Reads once. False at the input's end, or where it cannot be read: then errno says why, and is 0 at the end. */
 bool log_refill(struct log *log);
 
+/* From here on an interrupt, as Ctrl-C is, is the input's end; a second one ends the run. */
+void log_end_on_interrupt(void);
+
 /* The next line that is whole, without its end. At the input's end what is left is one. */
 bool log_next(struct log *log, struct text *text);
 

@@ -3,6 +3,8 @@
  *
  *   replay -d ID .. [-i INTERFACE] .. -s SETTINGS [-g] [-r] [-p PICTURE] INPUT
  *   replay -w -d ID [-i INTERFACE] INPUT
+ *
+ * With -n it only looks at these words, and there is no trial.
  */
 #include <errno.h>
 #include <fcntl.h>
@@ -42,10 +44,10 @@ static void add_interface(struct call *call, const char *name)
 int main(int count, char **words)
 {
     static struct call call;
-    bool send = false;
+    bool send = false, only_look = false;
     int option;
     signal(SIGPIPE, SIG_IGN); /* a pipe that nobody reads is an error of the write to it */
-    while ((option = getopt(count, words, "d:i:s:p:grw")) != -1)
+    while ((option = getopt(count, words, "d:i:s:p:grwn")) != -1)
         switch (option) {
         case 'd':
             add_id(&call, optarg);
@@ -68,11 +70,16 @@ int main(int count, char **words)
         case 'w':
             send = true;
             break;
+        case 'n':
+            only_look = true;
+            break;
         default:
             return 2;
         }
     if (optind + 1 != count)
         return 2;
     call.input = words[optind];
+    if (only_look)
+        return 0;
     return send ? send_log(&call) : replay_log(&call);
 }

@@ -7,29 +7,33 @@
 #include "picture.h"
 
 #include <errno.h>
+#include <fcntl.h>
 #include <stdio.h>
 #include <stdlib.h>
 #include <string.h>
+#include <sys/stat.h>
+#include <unistd.h>
 
 #include "kept.h"
 
 static const char *path; /* of the picture; NULL: there is none */
+static FILE *file;
 static struct kept *rows;
 static int64_t width = 1000; /* of a piece, in nanoseconds */
 
-void picture_begin(const char *file)
+void picture_begin(const char *name)
 {
-    FILE *there;
-    if (file == NULL)
+    int fd;
+    if (name == NULL)
         return;
-    there = fopen(file, "ab"); /* what stands there stays until the picture is whole */
-    if (there == NULL)
-        fail(2, "cannot write '%s': %s", file, strerror(errno));
-    fclose(there);
+    fd = open(name, O_WRONLY | O_CREAT, 0666); /* what stands there stays until the picture is drawn */
+    file = fd < 0 ? NULL : fdopen(fd, "wb");
+    if (file == NULL)
+        fail(2, "cannot write '%s': %s", name, strerror(errno));
     rows = calloc(ROWS, sizeof *rows);
     if (rows == NULL)
         fail(3, "no memory");
-    path = file;
+    path = name;
 }
 
 /* ---- What is kept. */
@@ -142,13 +146,12 @@ void picture_span(unsigned domain, enum span_kind kind, int64_t from, int64_t to
 
 void picture_end(const char *name, const struct account *account, int64_t end)
 {
-    FILE *file;
+    struct stat state;
     if (path == NULL)
         return;
-    file = fopen(path, "wb");
-    if (file == NULL)
+    if (fstat(fileno(file), &state) == 0 && S_ISREG(state.st_mode) && ftruncate(fileno(file), 0) != 0)
         fail(2, "cannot write '%s': %s", path, strerror(errno));
     draw_picture(file, name, rows, account, end);
     if (ferror(file) || fclose(file) != 0)
-        fail(2, "cannot write '%s'", path);
+        fail(2, "cannot write '%s': %s", path, strerror(errno));
 }

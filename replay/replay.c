@@ -165,6 +165,7 @@ int replay_log(const struct call *call)
     input.fd = open_input(call->input);
     settle(call->settings, call->settings_given, &account);
     picture_begin(call->picture);
+    log_end_on_interrupt();
     do {
         more = log_refill(&input);
         if (!more && errno != 0)

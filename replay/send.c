@@ -3,6 +3,7 @@
  * send and log2asc can read. The items go to the trial as they stand; of its lines those of main cycles and of
  * confirmations hold the frames.
  */
+#include <errno.h>
 #include <inttypes.h>
 #include <stdio.h>
 #include <string.h>
@@ -69,13 +70,15 @@ int send_log(const struct call *call)
     const char *line;
     size_t have;
     if (input == NULL)
-        fail(3, "no memory");
+        fail(2, "cannot read '%s': %s", call->input, strerror(errno));
     while (take_item(input, &have)) {
         trial_ask_item(item, have);
         trial_exchange();
         line = trial_line_or_bad();
         if (line == NULL)
             fail(1, "a record has a wrong mark or kind: those before it were sent");
+        if (number_at(item, 2) == 0xC73B && number_in(line) != 0)
+            fail(2, "settings are refused by %u: what was sent before them is above", number_in(line));
         say_frames(call, line);
         flush_lines();
     }

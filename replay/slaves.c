@@ -74,7 +74,8 @@ static void shade_to(unsigned domain, unsigned status, int64_t to)
         picture_span(domain, SPAN_PAST, slave->leap_from, to);
 }
 
-/* D by the two reads. The leap is by D and the thresholds, since a bit may show from before; the trial must show it. */
+/* D by the two reads. The leap is by D and the thresholds, since a bit may show from before; the trial must show it,
+ * and no other that did not show before. */
 static void tell_move(const struct frame *frame, struct shown before, struct shown after, struct told *told)
 {
     const struct slave *slave = &slaves[frame->meaning.domain];
@@ -82,8 +83,8 @@ static void tell_move(const struct frame *frame, struct shown before, struct sho
     told->d = ((int64_t)after.seconds - (int64_t)before.seconds) * SECOND + (int64_t)after.nanoseconds -
         (int64_t)before.nanoseconds;
     told->leapt = leap_of(slave, told->d);
-    if ((told->leapt & ~after.status) != 0)
-        fail(3, "line %" PRIu64 ": the status after D %" PRId64 " ns shows no leap", frame->line, told->d);
+    if ((told->leapt & ~after.status) != 0 || (after.status & STATUS_LEAPS & ~slave->leap & ~told->leapt) != 0)
+        fail(3, "line %" PRIu64 ": the status after D %" PRId64 " ns shows another leap", frame->line, told->d);
 }
 
 /* A FUP was taken, and the domain was read before and after it. */
