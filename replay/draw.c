@@ -137,11 +137,11 @@ static bool has_several(void)
     return false;
 }
 
-static bool has_span(const struct account *account, enum span_kind kind)
+static bool has_span(enum span_kind kind)
 {
     unsigned row;
     for (row = 0; row < DOMAINS; row++)
-        if (account->rows[row].shown && rows[row].spans[kind].count > 0)
+        if (rows[row].spans[kind].count > 0)
             return true;
     return false;
 }
@@ -367,7 +367,7 @@ static void draw_legend(const struct account *account, int top)
             out, "<rect x=\"%d\" y=\"%d\" width=\"2.4\" height=\"11\" fill=\"%s\"/>\n", at.x + 8, at.y - 6, colours[i]);
     }
     for (i = 0; i < SPAN_KINDS; i++) {
-        if (!has_span(account, i))
+        if (!has_span(i))
             continue;
         at = put_entry(&next, span_names[i]);
         fprintf(out, "<rect x=\"%d\" y=\"%d\" width=\"16\" height=\"12\" fill=\"%s\" stroke=\"#999\"/>\n", at.x,

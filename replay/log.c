@@ -37,7 +37,7 @@ void log_end_on_interrupt(void)
     sigaction(SIGINT, &action, NULL);
 }
 
-/* What `read` gives, once there is something; 0 also after an interrupt. */
+/* What `read` gives, once there is something; 0 after an interrupt. */
 static ssize_t read_some(int fd, char *to, size_t most)
 {
     while (!interrupted) {
@@ -70,6 +70,10 @@ bool log_refill(struct log *log)
         errno = 0;
     if (count <= 0) {
         log->ended = true;
+        if (interrupted) { /* a line of which only the beginning was read is none to speak of */
+            log->to = 0;
+            log->too_long = false;
+        }
         return false;
     }
     log->to += (size_t)count;
