@@ -5,26 +5,26 @@ use Prim.Native.Nat.{ℕ}
 use mathlib.Core.Path.{◌≡◌}
 use mathlib.Core.Bool.{Bool}
 use Rattle.promise.specs.Only.{OnlyOne}
-use Rattle.promise.proofs.Laws.{equation-only}
+use Rattle.promise.proofs.Laws.{equation_only}
 use Rattle.clock.specs.declared.reading.VirtualLocalTime.{VirtualLocalTime}
 use Rattle.settings.specs.declared.domain_settings.Role.{Role}
 use Rattle.admission.specs.declared.Needed.{Needed}
 use Rattle.admission.specs.declared.Admission.{Admission}
-use Rattle.admission.specs.Reading.{isGoodReading}
-use Rattle.admission.specs.Kept.{keptAfter}
-use Rattle.admission.specs.Admission.{isIn, admittedOf}
+use Rattle.admission.specs.Reading.{is_good_reading}
+use Rattle.admission.specs.Kept.{kept_after}
+use Rattle.admission.specs.Admission.{is_in, admitted_of}
 
-pub is-good-reading-only : (kept t : VirtualLocalTime) → OnlyOne (λ (r : Bool). r ≡ isGoodReading kept t)
-is-good-reading-only kept t = equation-only _
+pub is_good_reading_only : (kept t : VirtualLocalTime) → OnlyOne (λ (r : Bool). r ≡ is_good_reading kept t)
+is_good_reading_only kept t = equation_only _
 
-pub kept-after-only :
-    (number : ℕ) (kept t : VirtualLocalTime) → OnlyOne (λ (r : VirtualLocalTime). r ≡ keptAfter number kept t)
-kept-after-only number kept t = equation-only _
+pub kept_after_only :
+    (number : ℕ) (kept t : VirtualLocalTime) → OnlyOne (λ (r : VirtualLocalTime). r ≡ kept_after number kept t)
+kept_after_only number kept t = equation_only _
 
-pub admit-only :
+pub admit_only :
     (kept t : VirtualLocalTime) (own : ℕ) (role : Role) (asked : ℕ) (needed : Needed) →
-    OnlyOne (λ (r : Admission). r ≡ admittedOf kept t own role asked needed)
-admit-only kept t own role asked needed = equation-only _
+    OnlyOne (λ (r : Admission). r ≡ admitted_of kept t own role asked needed)
+admit_only kept t own role asked needed = equation_only _
 
-pub is-in-only : (role : Role) (needed : Needed) → OnlyOne (λ (r : Bool). r ≡ isIn role needed)
-is-in-only role needed = equation-only _
+pub is_in_only : (role : Role) (needed : Needed) → OnlyOne (λ (r : Bool). r ≡ is_in role needed)
+is_in_only role needed = equation_only _

@@ -8,24 +8,24 @@ use Rattle.admission.specs.declared.Needed.{Needed}
 use Rattle.admission.specs.declared.Needed.TheVariants.{Slave as slave, Master as master, Either as either}
 use Rattle.admission.specs.declared.Admission.{Admission}
 use Rattle.admission.specs.declared.Admission.TheVariants.{Admitted, Refused}
-use Rattle.admission.specs.Reading.{isGoodReading}
+use Rattle.admission.specs.Reading.{is_good_reading}
 
 -- ---- "not in the role needed (frame: slave; set, confirmation: master; read: either)"
-abbrev pub isIn : Role → Needed → Bool
-isIn Absent needed = false
-isIn Slave slave = true
-isIn Slave master = false
-isIn Slave either = true
-isIn Master slave = false
-isIn Master master = true
-isIn Master either = true
+abbrev pub is_in : Role → Needed → Bool
+is_in Absent needed = false
+is_in Slave slave = true
+is_in Slave master = false
+is_in Slave either = true
+is_in Master slave = false
+is_in Master master = true
+is_in Master either = true
 
 -- ---- 4 for a record: it is not that of the domain asked for, or not in the role needed
-abbrev pub isFor : (own : ℕ) → Role → (asked : ℕ) → Needed → Bool
-isFor own role asked needed = eqb asked own && isIn role needed
+abbrev pub is_for : (own : ℕ) → Role → (asked : ℕ) → Needed → Bool
+is_for own role asked needed = eqb asked own && is_in role needed
 
 -- ---- read, set, confirmation: 1, 4
-abbrev pub admittedOf : (kept t : VirtualLocalTime) (own : ℕ) → Role → (asked : ℕ) → Needed → Admission
-admittedOf kept t own role asked needed =
-    cond (isGoodReading kept t) (cond (isFor own role asked needed) Admitted (Refused Domain))
+abbrev pub admitted_of : (kept t : VirtualLocalTime) (own : ℕ) → Role → (asked : ℕ) → Needed → Admission
+admitted_of kept t own role asked needed =
+    cond (is_good_reading kept t) (cond (is_for own role asked needed) Admitted (Refused Domain))
     (Refused Reading)

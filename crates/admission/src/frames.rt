@@ -1,7 +1,7 @@
 // What a frame is tested for before it steps a record (paper 01, "Refusal numbers", 1 to 4): the reading, its bytes,
 // and whether the record is that of its domain, a slave's.
 ghost use Rattle.std.specs.Prelude.{◌≡◌};
-ghost use Rattle.admission.specs.FrameAdmission.{valuesFor, frameAdmitted};
+ghost use Rattle.admission.specs.FrameAdmission.{values_for, frame_admitted};
 
 use crate::{Needed, is_good_reading, is_in};
 use clock::VirtualLocalTime;
@@ -25,7 +25,7 @@ pub fn admit_frame(
     role: Role,
     bytes: &[u8],
 ) -> FrameAdmission
-    ensures { result ≡ frameAdmitted kept t own role bytes.now }
+    ensures { result ≡ frame_admitted kept t own role bytes.now }
 {
     if !is_good_reading(kept, t) {
         return FrameAdmission::Refused(Refusal::Reading);
@@ -38,7 +38,7 @@ pub fn admit_frame(
 }
 
 fn values_for(own: u8, role: Role, values: Frame) -> FrameAdmission
-    ensures { result ≡ valuesFor own role values }
+    ensures { result ≡ values_for own role values }
 {
     if values.domain() != own {
         return FrameAdmission::Refused(Refusal::Domain);

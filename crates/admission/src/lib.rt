@@ -4,9 +4,9 @@
 pub mod frames;
 
 ghost use Rattle.std.specs.Prelude.{◌≡◌};
-ghost use Rattle.admission.specs.Reading.{isGoodReading};
-ghost use Rattle.admission.specs.Kept.{keptAfter};
-ghost use Rattle.admission.specs.Admission.{isIn, admittedOf};
+ghost use Rattle.admission.specs.Reading.{is_good_reading};
+ghost use Rattle.admission.specs.Kept.{kept_after};
+ghost use Rattle.admission.specs.Admission.{is_in, admitted_of};
 
 use clock::VirtualLocalTime;
 pub use frames::{FrameAdmission, admit_frame};
@@ -29,14 +29,14 @@ pub enum Admission {
 
 // Whether a reading is at most the greatest one, and not before the kept one.
 pub fn is_good_reading(kept: VirtualLocalTime, t: VirtualLocalTime) -> bool
-    ensures { result ≡ isGoodReading kept t }
+    ensures { result ≡ is_good_reading kept t }
 {
     if t.is_reading() { kept.0 <= t.0 } else { false }
 }
 
 // The reading kept after a call at t that answers a number: t where it is a success.
 pub fn kept_after(number: u8, kept: VirtualLocalTime, t: VirtualLocalTime) -> VirtualLocalTime
-    ensures { result ≡ keptAfter number kept t }
+    ensures { result ≡ kept_after number kept t }
 {
     if number == 0 { t } else { kept }
 }
@@ -50,7 +50,7 @@ pub fn admit(
     asked: u8,
     needed: Needed,
 ) -> Admission
-    ensures { result ≡ admittedOf kept t own role asked needed }
+    ensures { result ≡ admitted_of kept t own role asked needed }
 {
     if !is_good_reading(kept, t) {
         return Admission::Refused(Refusal::Reading);
@@ -66,7 +66,7 @@ pub fn admit(
 
 // Whether a role is one that is needed.
 pub fn is_in(role: Role, needed: Needed) -> bool
-    ensures { result ≡ isIn role needed }
+    ensures { result ≡ is_in role needed }
 {
     match needed {
         Needed::Slave => match role {

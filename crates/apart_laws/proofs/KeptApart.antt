@@ -13,48 +13,48 @@ use lib.Dec.{ltb}
 use lib.ListN.{set as put}
 use lib.Seq.{set-get_or}
 use borrow.Author.Tests.{ltb-true, ltb-false}
-use Rattle.frame.specs.Values.{domainIn}
+use Rattle.frame.specs.Values.{domain_in}
 use Rattle.frame_read.specs.declared.Read.{Read}
 use Rattle.frame_read.specs.declared.Read.TheVariants.{Values, LengthNot8, NoSuchType}
-use Rattle.frame_read.specs.Read.{namedDomain, read_of}
+use Rattle.frame_read.specs.Read.{named_domain, read_of}
 use Rattle.frame_read.proofs.Laws.{Names, read_names}
 use Rattle.settings.specs.Node.{places}
 use Rattle.domain.specs.declared.Domain.{Domain}
-use Rattle.domain.specs.Records.{recordAt}
+use Rattle.domain.specs.Records.{record_at}
 use Rattle.node.specs.declared.Node.{Node}
-use Rattle.node_call.specs.Calls.{Call, nodeAfter}
-use Rattle.node_laws.proofs.Stays.{Kept, call-keeps}
+use Rattle.node_call.specs.Calls.{Call, node_after}
+use Rattle.node_laws.proofs.Stays.{Kept, call_keeps}
 use Rattle.apart_laws.specs.Apart.{
   OneCall,
   frame,
   read,
   set,
   confirm,
-  asCall,
+  as_call,
   Done,
   Apart,
   Placed,
-  doneIn,
-  apartAfter,
+  done_in,
+  apart_after,
   IsRightFor,
   IsRight,
   AllRight,
   pick_of,
   picked,
   OneEach,
-  apartOf,
-  replyOf,
+  apart_of,
+  reply_of,
   AsNode,
 }
-use Rattle.apart_laws.proofs.Foreign.{NotFor, Foreign, leftBy, foreign-done}
+use Rattle.apart_laws.proofs.Foreign.{NotFor, Foreign, left_by, foreign_done}
 
 -- ---- one record per domain, whatever is called
 
 abbrev NumberStays : (before after : Domain) → Type 0
 NumberStays before after = after.number ≡ before.number
 
-number-kept : Kept NumberStays
-number-kept =
+number_kept : Kept NumberStays
+number_kept =
     record {
       master =
           record {
@@ -69,21 +69,21 @@ number-kept =
       updated = λ d p f leap. refl;
     }
 
-pub number-stays :
-    (n : Node) (c : Call) (i : ℕ) → NumberStays (recordAt n.domains i) (recordAt (nodeAfter n c).domains i)
-number-stays = call-keeps NumberStays number-kept
+pub number_stays :
+    (n : Node) (c : Call) (i : ℕ) → NumberStays (record_at n.domains i) (record_at (node_after n c).domains i)
+number_stays = call_keeps NumberStays number_kept
 
-one-each-after : (n : Node) (c : Call) → OneEach n.domains → OneEach (nodeAfter n c).domains
-one-each-after n c one i below = rw (number-stays n c i) (one i below)
+one_each_after : (n : Node) (c : Call) → OneEach n.domains → OneEach (node_after n c).domains
+one_each_after n c one i below = rw (number_stays n c i) (one i below)
 
 -- ---- what one call at a place is to the node
 
-stored_back : (ds : List Domain) (i : ℕ) → put ds i (recordAt ds i) ≡ ds
+stored_back : (ds : List Domain) (i : ℕ) → put ds i (record_at ds i) ≡ ds
 stored_back ds i = set-get_or ds i _
 
 pub record Same (n : Node) (p : Placed) : Type 0 where
-  pub reply : (doneIn (apartOf n) p).reply ≡ replyOf n (asCall p.call)
-  pub after : apartAfter (apartOf n) p ≡ apartOf (nodeAfter n (asCall p.call))
+  pub reply : (done_in (apart_of n) p).reply ≡ reply_of n (as_call p.call)
+  pub after : apart_after (apart_of n) p ≡ apart_of (node_after n (as_call p.call))
 
 picked_same : (n : Node) (c : OneCall) → Same n (picked c)
 picked_same n (frame t bytes) = record { reply = refl; after = refl }
@@ -99,7 +99,7 @@ picked_same n (confirm domain t counter out) = record { reply = refl; after = re
 
 module _ (n : Node) (one : OneEach n.domains) (i : ℕ) (below : i < places) where
   abbrev here : ℕ → Domain
-  here j = recordAt n.domains j
+  here j = record_at n.domains j
 
   -- a domain above 15 is no record's
   above : (asked j : ℕ) → j < places → places ≤ asked → asked ≡ (here j).number → ⊥
@@ -108,10 +108,10 @@ module _ (n : Node) (one : OneEach n.domains) (i : ℕ) (below : i < places) whe
   abbrev Alike : OneCall → Type 0
   Alike c = (i ≡ pick_of c) ⊎ (Foreign c (here i) × Foreign c (here (pick_of c)))
 
-  domain-alike :
+  domain_alike :
       (asked : ℕ) → (asked < places → i ≡ asked) →
       (i ≡ asked % places) ⊎ ((asked ≡ (here i).number → ⊥) × (asked ≡ (here (asked % places)).number → ⊥))
-  domain-alike asked right = go (ltb asked places) refl
+  domain_alike asked right = go (ltb asked places) refl
     where
       go :
           (b : Bool) → ltb asked places ≡ b →
@@ -123,28 +123,28 @@ module _ (n : Node) (one : OneEach n.domains) (i : ℕ) (below : i < places) whe
 
   read_alike :
       (bytes : List ℕ) (r : Read) → Names bytes r → IsRightFor r i →
-      let j = namedDomain bytes % places in (i ≡ j) ⊎ (NotFor r (here i).number × NotFor r (here j).number)
+      let j = named_domain bytes % places in (i ≡ j) ⊎ (NotFor r (here i).number × NotFor r (here j).number)
   read_alike bytes (Values values) e right =
       subst (λ (x : ℕ).
       (i ≡ x % places)
-      ⊎ ((domainIn values ≡ (here i).number → ⊥) × (domainIn values ≡ (here (x % places)).number → ⊥)))
-      e (domain-alike (domainIn values) right)
+      ⊎ ((domain_in values ≡ (here i).number → ⊥) × (domain_in values ≡ (here (x % places)).number → ⊥)))
+      e (domain_alike (domain_in values) right)
   read_alike bytes LengthNot8 e right = inr (tt, tt)
   read_alike bytes NoSuchType e right = inr (tt, tt)
 
   alike : (c : OneCall) → IsRight (record { place = i; call = c }) → Alike c
   alike (frame t bytes) p = read_alike bytes (read_of bytes) (read_names bytes) p.1
-  alike (read domain t) p = domain-alike domain p.1
-  alike (set domain t s ns) p = domain-alike domain p.1
-  alike (confirm domain t counter out) p = domain-alike domain p.1
+  alike (read domain t) p = domain_alike domain p.1
+  alike (set domain t s ns) p = domain_alike domain p.1
+  alike (confirm domain t counter out) p = domain_alike domain p.1
 
   -- a record that a call leaves is stored as it was
   left_at :
       (j : ℕ) (c : OneCall) → Foreign c (here j) →
       let p : Placed = record { place = j; call = c } in
-      (doneIn (apartOf n) p ≡ leftBy (here j) n.kept c) × (apartAfter (apartOf n) p ≡ apartOf n)
+      (done_in (apart_of n) p ≡ left_by (here j) n.kept c) × (apart_after (apart_of n) p ≡ apart_of n)
   left_at j c f =
-      let done = foreign-done (here j) n.kept c f in (
+      let done = foreign_done (here j) n.kept c f in (
         done,
         ap (λ (d : Done). record { domains = put n.domains j d.domain; kept = d.kept }) done
             ∙ (λ k. record { domains = stored_back n.domains j k; kept = n.kept }),
@@ -161,17 +161,17 @@ module _ (n : Node) (one : OneEach n.domains) (i : ℕ) (below : i < places) whe
         after = mine.1 ∙ sym its.1 ∙ node.after;
       }
 
-one-call : (n : Node) → OneEach n.domains → (p : Placed) → IsRight p → Same n p
-one-call n one p right =
+one_call : (n : Node) → OneEach n.domains → (p : Placed) → IsRight p → Same n p
+one_call n one p right =
     placed_same n one p.place right.0 p.call (alike n one p.place right.0 p.call right)
 
 -- ---- any calls
 
-pub kept-apart : (n : Node) → OneEach n.domains → (ps : List Placed) → AllRight ps → AsNode (apartOf n) n ps
-kept-apart n one [] right = record { contents = refl; answers = refl }
-kept-apart n one (p ∷ rest) right =
-    let c = asCall p.call in
-    let first = one-call n one p right.0 in
-    let later = kept-apart (nodeAfter n c) (one-each-after n c one) rest right.1 in
-    let all = subst (λ (a : Apart). AsNode a (nodeAfter n c) rest) (sym first.after) later in
+pub kept_apart : (n : Node) → OneEach n.domains → (ps : List Placed) → AllRight ps → AsNode (apart_of n) n ps
+kept_apart n one [] right = record { contents = refl; answers = refl }
+kept_apart n one (p ∷ rest) right =
+    let c = as_call p.call in
+    let first = one_call n one p right.0 in
+    let later = kept_apart (node_after n c) (one_each_after n c one) rest right.1 in
+    let all = subst (λ (a : Apart). AsNode a (node_after n c) rest) (sym first.after) later in
     record { contents = all.contents; answers = λ i. first.reply i ∷ all.answers i }

@@ -1,4 +1,4 @@
--- What meets the hypotheses of `kept-apart`. No contract cites this file.
+-- What meets the hypotheses of `kept_apart`. No contract cites this file.
 --   reachable-one-each   a node that is reachable has one record per domain
 --   pick-right           byte 2 of a frame, or the domain asked for, modulo 16: a place that is right for any call
 --   picked_apart         so that any calls at these places are to the records what they are to the node
@@ -14,17 +14,17 @@ use native.Mathlib.Omega.{arith}
 use Rattle.clock.specs.declared.reading.VirtualLocalTime.{VirtualLocalTime}
 use Rattle.frame_read.specs.declared.Read.{Read}
 use Rattle.frame_read.specs.declared.Read.TheVariants.{Values, LengthNot8, NoSuchType}
-use Rattle.frame_read.specs.Read.{namedDomain, read_of}
+use Rattle.frame_read.specs.Read.{named_domain, read_of}
 use Rattle.frame_read.proofs.Laws.{Names, read_names}
 use Rattle.settings.specs.declared.node_settings.NodeSettings.{NodeSettings}
 use Rattle.settings.specs.declared.node_settings.Verdict.TheVariants.{Good}
-use Rattle.settings.specs.Node.{places, judgedOf}
+use Rattle.settings.specs.Node.{places, judged_of}
 use Rattle.node.specs.declared.Node.{Node}
-use Rattle.node.specs.New.{newOf}
-use Rattle.node_call.specs.Calls.{callNumber}
-use Rattle.bench_settings.specs.Bench.{benchWith}
+use Rattle.node.specs.New.{new_of}
+use Rattle.node_call.specs.Calls.{call_number}
+use Rattle.bench_settings.specs.Bench.{bench_with}
 use Rattle.node_laws.specs.Reachable.{IsSettings, Reachable, new}
-use Rattle.node_laws.proofs.Reachable.{reachable-good}
+use Rattle.node_laws.proofs.Reachable.{reachable_good}
 use Rattle.apart_laws.specs.Apart.{
   OneCall,
   frame,
@@ -34,60 +34,60 @@ use Rattle.apart_laws.specs.Apart.{
   Reply,
   Apart,
   Placed,
-  apartReplies,
+  apart_replies,
   IsRightFor,
   IsRight,
   AllRight,
   pick_of,
   picked,
   OneEach,
-  apartOf,
+  apart_of,
   AsNode,
-  freshApart,
+  fresh_apart,
 }
-use Rattle.apart_laws.proofs.KeptApart.{kept-apart}
+use Rattle.apart_laws.proofs.KeptApart.{kept_apart}
 
 -- ---- the nodes
 
-pub reachable-one-each : (n : Node) → Reachable n → OneEach n.domains
-reachable-one-each n r i below = ((reachable-good n r).records i below).number
+pub reachable_one_each : (n : Node) → Reachable n → OneEach n.domains
+reachable_one_each n r i below = ((reachable_good n r).records i below).number
 
 -- ---- the places
 
-pick-below : (c : OneCall) → pick_of c < places
-pick-below (frame t bytes) = mod-lt (namedDomain bytes) (omega arith)
-pick-below (read domain t) = mod-lt domain (omega arith)
-pick-below (set domain t s ns) = mod-lt domain (omega arith)
-pick-below (confirm domain t counter out) = mod-lt domain (omega arith)
+pick_below : (c : OneCall) → pick_of c < places
+pick_below (frame t bytes) = mod-lt (named_domain bytes) (omega arith)
+pick_below (read domain t) = mod-lt domain (omega arith)
+pick_below (set domain t s ns) = mod-lt domain (omega arith)
+pick_below (confirm domain t counter out) = mod-lt domain (omega arith)
 
-read_right : (bytes : List ℕ) (r : Read) → Names bytes r → IsRightFor r (namedDomain bytes % places)
+read_right : (bytes : List ℕ) (r : Read) → Names bytes r → IsRightFor r (named_domain bytes % places)
 read_right bytes (Values values) e = λ below. ap (λ (x : ℕ). x % places) (sym e) ∙ mod-eq_of_lt below
 read_right bytes LengthNot8 e = tt
 read_right bytes NoSuchType e = tt
 
-pub pick-right : (c : OneCall) → IsRight (picked c)
-pick-right (frame t bytes) = (pick-below (frame t bytes), read_right bytes (read_of bytes) (read_names bytes))
-pick-right (read domain t) = (pick-below (read domain t), λ below. mod-eq_of_lt below)
-pick-right (set domain t s ns) = (pick-below (set domain t s ns), λ below. mod-eq_of_lt below)
-pick-right (confirm domain t counter out) =
-    (pick-below (confirm domain t counter out), λ below. mod-eq_of_lt below)
+pub pick_right : (c : OneCall) → IsRight (picked c)
+pick_right (frame t bytes) = (pick_below (frame t bytes), read_right bytes (read_of bytes) (read_names bytes))
+pick_right (read domain t) = (pick_below (read domain t), λ below. mod-eq_of_lt below)
+pick_right (set domain t s ns) = (pick_below (set domain t s ns), λ below. mod-eq_of_lt below)
+pick_right (confirm domain t counter out) =
+    (pick_below (confirm domain t counter out), λ below. mod-eq_of_lt below)
 
-all-picked : (cs : List OneCall) → AllRight (map picked cs)
-all-picked [] = tt
-all-picked (c ∷ rest) = (pick-right c, all-picked rest)
+all_picked : (cs : List OneCall) → AllRight (map picked cs)
+all_picked [] = tt
+all_picked (c ∷ rest) = (pick_right c, all_picked rest)
 
-pub picked_apart : (n : Node) → Reachable n → (cs : List OneCall) → AsNode (apartOf n) n (map picked cs)
-picked_apart n r cs = kept-apart n (reachable-one-each n r) (map picked cs) (all-picked cs)
+pub picked_apart : (n : Node) → Reachable n → (cs : List OneCall) → AsNode (apart_of n) n (map picked cs)
+picked_apart n r cs = kept_apart n (reachable_one_each n r) (map picked cs) (all_picked cs)
 
 -- ---- records that the product makes itself
 
-pub kept-apart-new :
-    (s : NodeSettings) → IsSettings s → judgedOf s ≡ Good → (ps : List Placed) → AllRight ps →
-    AsNode (freshApart s.domains) (newOf s).node ps
-kept-apart-new s is good ps right =
-    let n = (newOf s).node in
+pub kept_apart_new :
+    (s : NodeSettings) → IsSettings s → judged_of s ≡ Good → (ps : List Placed) → AllRight ps →
+    AsNode (fresh_apart s.domains) (new_of s).node ps
+kept_apart_new s is good ps right =
+    let n = (new_of s).node in
     subst (λ (a : Apart). AsNode a n ps) (rw good)
-    (kept-apart n (reachable-one-each n (new s is)) ps right)
+    (kept_apart n (reachable_one_each n (new s is)) ps right)
 
 -- ---- calls, computed
 
@@ -115,8 +115,8 @@ calls =
     ∷ on 2 (confirm 2 (at 6020000000) 0 [])
     ∷ []
 
-calls-right : AllRight calls
-calls-right = (
+calls_right : AllRight calls
+calls_right = (
   (omega arith, λ below. refl),
   (
     (omega arith, tt),
@@ -133,17 +133,17 @@ calls-right = (
   ),
 )
 
-abbrev numbersOf : List Reply → List ℕ
-numbersOf rs = map (λ (r : Reply). callNumber r.answer) rs
+abbrev numbers_of : List Reply → List ℕ
+numbers_of rs = map (λ (r : Reply). call_number r.answer) rs
 
 abbrev fresh : Apart
-fresh = freshApart (benchWith 2).domains
+fresh = fresh_apart (bench_with 2).domains
 
-calls-apart : AsNode fresh (newOf (benchWith 2)).node calls
-calls-apart = kept-apart-new (benchWith 2) refl refl calls calls-right
+calls_apart : AsNode fresh (new_of (bench_with 2)).node calls
+calls_apart = kept_apart_new (bench_with 2) refl refl calls calls_right
 
-pub calls-met : numbersOf (apartReplies fresh calls) ≡ 0 ∷ 2 ∷ 0 ∷ 1 ∷ 4 ∷ 0 ∷ 0 ∷ 11 ∷ []
-calls-met = refl
+pub calls_met : numbers_of (apart_replies fresh calls) ≡ 0 ∷ 2 ∷ 0 ∷ 1 ∷ 4 ∷ 0 ∷ 0 ∷ 11 ∷ []
+calls_met = refl
 
-pub not-met : numbersOf (apartReplies fresh (on 2 (frame (at 5000000000) p1) ∷ [])) ≡ 4 ∷ []
-not-met = refl
+pub not_met : numbers_of (apart_replies fresh (on 2 (frame (at 5000000000) p1) ∷ [])) ≡ 4 ∷ []
+not_met = refl

@@ -1,4 +1,4 @@
--- What the functions promise is what `doneOn` says: `frame_on`, and the calls by value. No contract cites this file.
+-- What the functions promise is what `done_on` says: `frame_on`, and the calls by value. No contract cites this file.
 --   frame-done     whatever satisfies the promise of `frame_on`, the lent record after it among that
 --   read_done      that of `read_call`
 --   set-done       that of `set_call`
@@ -12,41 +12,41 @@ use Rattle.domain.specs.declared.Domain.{Domain}
 use Rattle.lent_frame.specs.declared.LentFrame.{LentFrame}
 use Rattle.lent_frame.specs.Lent.{TakenOn}
 use Rattle.call_read.specs.declared.ReadAnswer.{ReadAnswer}
-use Rattle.call_read.specs.ReadCall.{readCallOf}
+use Rattle.call_read.specs.ReadCall.{read_call_of}
 use Rattle.call_set.specs.declared.SetCall.{SetCall}
-use Rattle.call_set.specs.SetCall.{setCallOf}
+use Rattle.call_set.specs.SetCall.{set_call_of}
 use Rattle.call_confirm.specs.declared.ConfirmCall.{ConfirmCall}
-use Rattle.call_confirm.specs.ConfirmCall.{confirmBytes, ConfirmedIn}
+use Rattle.call_confirm.specs.ConfirmCall.{confirm_bytes, ConfirmedIn}
 use Rattle.node_call.specs.declared.CallAnswer.{CallAnswer}
 use Rattle.node_call.specs.declared.CallAnswer.TheVariants as told
-use Rattle.apart_laws.specs.Apart.{frame, read, set, confirm, Done, doneOn}
+use Rattle.apart_laws.specs.Apart.{frame, read, set, confirm, Done, done_on}
 
 -- ---- what a call gave, as `Done`
 abbrev gave : CallAnswer → (out : List ℕ) → Domain → (kept : VirtualLocalTime) → Done
 gave answer out d kept = record { reply = record { answer = answer; out = out }; domain = d; kept = kept }
 
 module _ (d : Domain) (kept t : VirtualLocalTime) where
-  pub frame-done :
+  pub frame_done :
       (bytes : List ℕ) (r : LentFrame) (after : Domain) → TakenOn d kept t bytes r after →
-      gave (told.Frame r.answer) [] after r.kept ≡ doneOn d kept (frame t bytes)
-  frame-done bytes r after p = λ i. gave (told.Frame (p.call i).answer) [] (p.domain i) (p.call i).kept
+      gave (told.Frame r.answer) [] after r.kept ≡ done_on d kept (frame t bytes)
+  frame_done bytes r after p = λ i. gave (told.Frame (p.call i).answer) [] (p.domain i) (p.call i).kept
 
   pub read_done :
-      (domain : ℕ) (r : ReadAnswer) → r ≡ readCallOf d kept domain t →
-      gave (told.Read r) [] d kept ≡ doneOn d kept (read domain t)
+      (domain : ℕ) (r : ReadAnswer) → r ≡ read_call_of d kept domain t →
+      gave (told.Read r) [] d kept ≡ done_on d kept (read domain t)
   read_done domain r p = ap (λ (r : ReadAnswer). gave (told.Read r) [] d kept) p
 
-  pub set-done :
-      (domain seconds nanoseconds : ℕ) (r : SetCall) → r ≡ setCallOf d kept domain t seconds nanoseconds →
-      gave (told.Set r.answer) [] r.domain r.kept ≡ doneOn d kept (set domain t seconds nanoseconds)
-  set-done domain seconds nanoseconds r p =
+  pub set_done :
+      (domain seconds nanoseconds : ℕ) (r : SetCall) → r ≡ set_call_of d kept domain t seconds nanoseconds →
+      gave (told.Set r.answer) [] r.domain r.kept ≡ done_on d kept (set domain t seconds nanoseconds)
+  set_done domain seconds nanoseconds r p =
       ap (λ (r : SetCall). gave (told.Set r.answer) [] r.domain r.kept) p
 
-  pub confirm-done :
+  pub confirm_done :
       (domain counter : ℕ) (out : List ℕ) (r : ConfirmCall) (after : List ℕ) →
       ConfirmedIn d kept domain t counter out r after →
-      gave (told.Confirm r.answer) after r.domain r.kept ≡ doneOn d kept (confirm domain t counter out)
-  confirm-done domain counter out r after p =
+      gave (told.Confirm r.answer) after r.domain r.kept ≡ done_on d kept (confirm domain t counter out)
+  confirm_done domain counter out r after p =
       ap (λ (bytes : List ℕ). gave (told.Confirm r.answer) bytes r.domain r.kept) p.bytes
       ∙ ap (λ (r : ConfirmCall).
-      gave (told.Confirm r.answer) (confirmBytes r.answer d.settings.ids out) r.domain r.kept) p.call
+      gave (told.Confirm r.answer) (confirm_bytes r.answer d.settings.ids out) r.domain r.kept) p.call

@@ -4,12 +4,12 @@ use Prim.Native.Nat.{ℕ}
 use mathlib.Core.Path.{◌≡◌}
 use mathlib.Core.List.{List}
 use Rattle.promise.specs.Only.{OnlyOne}
-use Rattle.promise.proofs.Laws.{equation-only}
+use Rattle.promise.proofs.Laws.{equation_only}
 use Rattle.bench_record.specs.declared.Asked.{Asked}
-use Rattle.bench_record.specs.Record.{askedBy, payloadOf}
+use Rattle.bench_record.specs.Record.{asked_by, payload_of}
 
-pub asked-by-only : (bytes : List ℕ) → OnlyOne (λ (r : Asked). r ≡ askedBy bytes)
-asked-by-only bytes = equation-only (askedBy bytes)
+pub asked_by_only : (bytes : List ℕ) → OnlyOne (λ (r : Asked). r ≡ asked_by bytes)
+asked_by_only bytes = equation_only (asked_by bytes)
 
-pub payload-only : (bytes : List ℕ) → OnlyOne (λ (r : List ℕ). r ≡ payloadOf bytes)
-payload-only bytes = equation-only (payloadOf bytes)
+pub payload_only : (bytes : List ℕ) → OnlyOne (λ (r : List ℕ). r ≡ payload_of bytes)
+payload_only bytes = equation_only (payload_of bytes)

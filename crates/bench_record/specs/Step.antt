@@ -2,11 +2,11 @@
 -- a call, and in the line of its answer. Assumes nothing.
 use Rattle.std.specs.Prelude.{ℕ, ◌≡◌, Bool, true, false, List}
 use Rattle.text.specs.Text.{Puts}
-use Rattle.text.specs.Lines.{badText}
+use Rattle.text.specs.Lines.{bad_text}
 use Rattle.node.specs.declared.Node.{Node}
 use Rattle.node_call.specs.declared.Request.{Request}
 use Rattle.node_call.specs.declared.CallAnswer.{CallAnswer}
-use Rattle.node_call.specs.Calls.{nodeAfter, answer_of, bytesAfter}
+use Rattle.node_call.specs.Calls.{node_after, answer_of, bytes_after}
 use Rattle.node_call.specs.Called.{call_of}
 use Rattle.bench_record.specs.declared.Asked.{Asked}
 use Rattle.bench_record.specs.declared.Asked.TheVariants.{Call, Bad}
@@ -21,7 +21,7 @@ pub record Stepped
 
 -- ---- "A wrong mark or kind prints `bad record` and its number" and ends the run.
 abbrev pub Ended : Node → (item at : ℕ) (before : List ℕ) → Step → List ℕ → Type 0
-Ended n item at before r after = Stepped n false (badText item) at before r after
+Ended n item at before r after = Stepped n false (bad_text item) at before r after
 
 -- ---- The call that is asked for, with what it is given and lent, and the line of its answer and of the lent bytes
 -- after it.
@@ -30,7 +30,7 @@ abbrev pub Answered :
     Step → List ℕ → Type 0
 Answered line n q given lent at before r after =
     let c = call_of q given lent in
-    Stepped (nodeAfter n c) true (line (answer_of n c) (bytesAfter n c lent)) at before r after
+    Stepped (node_after n c) true (line (answer_of n c) (bytes_after n c lent)) at before r after
 
 -- ---- A record, by what it asks for.
 abbrev pub RecordStepped :

@@ -4,7 +4,7 @@ pub mod line;
 pub mod step;
 
 ghost use Rattle.std.specs.Prelude.{◌≡◌};
-ghost use Rattle.bench_record.specs.Record.{askedBy, requestOf, payloadOf};
+ghost use Rattle.bench_record.specs.Record.{asked_by, request_of, payload_of};
 
 use clock::VirtualLocalTime;
 use node_call::Request;
@@ -19,7 +19,7 @@ pub enum Asked {
 }
 
 pub fn asked_by(bytes: &[u8]) -> Asked
-    ensures { result ≡ askedBy bytes.now }
+    ensures { result ≡ asked_by bytes.now }
 {
     if byte_at(bytes, 0) != 0xC7 {
         return Asked::Bad;
@@ -32,7 +32,7 @@ pub fn asked_by(bytes: &[u8]) -> Asked
 
 // By the kind.
 fn request(bytes: &[u8]) -> Asked
-    ensures { result ≡ requestOf bytes.now }
+    ensures { result ≡ request_of bytes.now }
 {
     let domain = byte_at(bytes, 3);
     let t = VirtualLocalTime(long_at(bytes, 4));
@@ -48,7 +48,7 @@ fn request(bytes: &[u8]) -> Asked
 
 // The payload; of a shorter record the bytes that it lacks count as 0.
 pub fn payload(bytes: &[u8]) -> [u8; 8]
-    ensures { result ≡ payloadOf bytes.now }
+    ensures { result ≡ payload_of bytes.now }
 {
     [
         byte_at(bytes, 12),

@@ -1,6 +1,6 @@
 // The bench's settings (paper 01, "Bench program").
 ghost use Rattle.std.specs.Prelude.{◌≡◌};
-ghost use Rattle.bench_settings.specs.Bench.{slaveWith, benchMaster, benchWith};
+ghost use Rattle.bench_settings.specs.Bench.{slave_with, bench_master, bench_with};
 
 use frame::DataIds;
 use frame_check::CheckMode;
@@ -8,7 +8,7 @@ use settings::{DomainSettings, NodeSettings, Role, Security, UserBytes};
 
 // S 1; domain 1 a slave, domain 2 a master, the others absent.
 pub fn bench_settings() -> NodeSettings
-    ensures { result ≡ benchWith 2 }
+    ensures { result ≡ bench_with 2 }
 {
     let absent = DomainSettings::absent();
     NodeSettings {
@@ -36,7 +36,7 @@ pub fn bench_settings() -> NodeSettings
 
 // Not validated, J 2, H 0, F 100 ms, L 2 s, both thresholds 500 ms; a leap bit is off at the next update within them.
 fn slave() -> DomainSettings
-    ensures { result ≡ slaveWith 2 }
+    ensures { result ≡ slave_with 2 }
 {
     DomainSettings {
         follow_up_time: 100_000_000,
@@ -61,7 +61,7 @@ fn slave() -> DomainSettings
 
 // Plain, P 1 s, C 200 ms, user bytes 0.
 fn master() -> DomainSettings
-    ensures { result ≡ benchMaster }
+    ensures { result ≡ bench_master }
 {
     DomainSettings {
         follow_up_time: 0,

@@ -1,6 +1,6 @@
 -- Paper 01, "Bench program": the line of an answer. Assumes nothing.
 use Rattle.std.specs.Prelude.{ℕ, zero, suc, List, [], ◌++◌}
-use Rattle.text.specs.Text.{hexOf, decimal}
+use Rattle.text.specs.Text.{hex_of, decimal}
 use Rattle.text.specs.Lines.{blank}
 use Rattle.call_read.specs.declared.ReadAnswer.{ReadAnswer}
 use Rattle.call_read.specs.declared.ReadAnswer.TheVariants as read
@@ -10,34 +10,34 @@ use Rattle.master_confirm.specs.declared.ConfirmAnswer.{ConfirmAnswer}
 use Rattle.master_confirm.specs.declared.ConfirmAnswer.TheVariants as confirm
 use Rattle.node_call.specs.declared.CallAnswer.{CallAnswer}
 use Rattle.node_call.specs.declared.CallAnswer.TheVariants.{Frame, Read, Set, Cycle, Confirm}
-use Rattle.node_call.specs.Calls.{callNumber}
-use Rattle.bench_record.specs.Line.{shownText, lineWith}
+use Rattle.node_call.specs.Calls.{call_number}
+use Rattle.bench_record.specs.Line.{shown_text, line_with}
 
 -- ---- "on success kind 2 adds seconds, a point, nine digits, and the status as two hex digits"
-abbrev pub benchRead : ReadAnswer → List ℕ
-benchRead (read.Time shown) = shownText shown
-benchRead (read.Refused refusal) = []
+abbrev pub bench_read : ReadAnswer → List ℕ
+bench_read (read.Time shown) = shown_text shown
+bench_read (read.Refused refusal) = []
 
 -- ---- "kind 4 the frame count and the frames"; with S 1 there is one frame or none
-abbrev pub framesText : (count : ℕ) → (sent : List ℕ) → List ℕ
-framesText zero sent = []
-framesText (suc count) sent = blank ++ hexOf sent
+abbrev pub frames_text : (count : ℕ) → (sent : List ℕ) → List ℕ
+frames_text zero sent = []
+frames_text (suc count) sent = blank ++ hex_of sent
 
-abbrev pub benchCycle : CycleAnswer → (sent : List ℕ) → List ℕ
-benchCycle (cycle.Sent count) sent = blank ++ decimal count ++ framesText count sent
-benchCycle (cycle.Refused refusal) sent = []
+abbrev pub bench_cycle : CycleAnswer → (sent : List ℕ) → List ℕ
+bench_cycle (cycle.Sent count) sent = blank ++ decimal count ++ frames_text count sent
+bench_cycle (cycle.Refused refusal) sent = []
 
 -- ---- "kind 5 the frame"
-abbrev pub benchConfirm : ConfirmAnswer → (sent : List ℕ) → List ℕ
-benchConfirm (confirm.Followed fup) sent = blank ++ hexOf sent
-benchConfirm (confirm.Refused refusal) sent = []
+abbrev pub bench_confirm : ConfirmAnswer → (sent : List ℕ) → List ℕ
+bench_confirm (confirm.Followed fup) sent = blank ++ hex_of sent
+bench_confirm (confirm.Refused refusal) sent = []
 
-abbrev pub benchValues : CallAnswer → (sent : List ℕ) → List ℕ
-benchValues (Frame answer) sent = []
-benchValues (Read answer) sent = benchRead answer
-benchValues (Set answer) sent = []
-benchValues (Cycle answer) sent = benchCycle answer sent
-benchValues (Confirm answer) sent = benchConfirm answer sent
+abbrev pub bench_values : CallAnswer → (sent : List ℕ) → List ℕ
+bench_values (Frame answer) sent = []
+bench_values (Read answer) sent = bench_read answer
+bench_values (Set answer) sent = []
+bench_values (Cycle answer) sent = bench_cycle answer sent
+bench_values (Confirm answer) sent = bench_confirm answer sent
 
-abbrev pub benchLine : (item : ℕ) → CallAnswer → (sent : List ℕ) → List ℕ
-benchLine item answer sent = lineWith item (callNumber answer) (benchValues answer sent)
+abbrev pub bench_line : (item : ℕ) → CallAnswer → (sent : List ℕ) → List ℕ
+bench_line item answer sent = line_with item (call_number answer) (bench_values answer sent)

@@ -2,11 +2,11 @@
 use Rattle.std.specs.Prelude.{ℕ, List}
 use Rattle.node.specs.declared.Node.{Node}
 use Rattle.bench_record.specs.declared.step.Step.{Step}
-use Rattle.bench_record.specs.Record.{askedBy, payloadOf, lent}
+use Rattle.bench_record.specs.Record.{asked_by, payload_of, lent}
 use Rattle.bench_record.specs.Step.{RecordStepped}
-use Rattle.bench_step.specs.BenchLine.{benchLine}
+use Rattle.bench_step.specs.BenchLine.{bench_line}
 
 -- ---- The payload is the call's frame.
 abbrev pub BenchStepped : Node → (item : ℕ) (bytes : List ℕ) (at : ℕ) (before : List ℕ) → Step → List ℕ → Type 0
 BenchStepped n item bytes at before r after =
-    RecordStepped (askedBy bytes) (benchLine item) (payloadOf bytes) (λ q. lent) n item at before r after
+    RecordStepped (asked_by bytes) (bench_line item) (payload_of bytes) (λ q. lent) n item at before r after

@@ -2,7 +2,7 @@
 pub mod line;
 
 ghost use Rattle.bench_record.specs.Step.{Answered};
-ghost use Rattle.bench_step.specs.BenchLine.{benchLine};
+ghost use Rattle.bench_step.specs.BenchLine.{bench_line};
 ghost use Rattle.bench_record.specs.Record.{lent};
 ghost use Rattle.bench_step.specs.Step.{BenchStepped};
 
@@ -31,7 +31,7 @@ fn answer(
     out: &mut [u8],
     at: usize,
 ) -> Step
-    ensures { Answered (benchLine item) node request payload lent at
+    ensures { Answered (bench_line item) node request payload lent at
         out.old result out.new }
 {
     let mut sent = [0u8; 8];

@@ -1,11 +1,11 @@
 // The bench's line of an answer (paper 01, "Bench program"). A refusal is its number and nothing more.
 ghost use Rattle.text.specs.Text.{Puts};
 ghost use Rattle.bench_step.specs.BenchLine.{
-  benchRead,
-  benchCycle,
-  benchConfirm,
-  benchValues,
-  benchLine,
+  bench_read,
+  bench_cycle,
+  bench_confirm,
+  bench_values,
+  bench_line,
 };
 
 use bench_record::line::put_shown;
@@ -24,7 +24,7 @@ pub fn put_bench_line(
     answer: CallAnswer,
     sent: &[u8],
 ) -> usize
-    ensures { Puts (benchLine item answer sent.now) at out.old result out.new }
+    ensures { Puts (bench_line item answer sent.now) at out.old result out.new }
 {
     let values = put_answer(out, at, item, answer.number());
     let end = put_values(out, values, answer, sent);
@@ -33,7 +33,7 @@ pub fn put_bench_line(
 
 // What a success adds.
 fn put_values(out: &mut [u8], at: usize, answer: CallAnswer, sent: &[u8]) -> usize
-    ensures { Puts (benchValues answer sent.now) at out.old result out.new }
+    ensures { Puts (bench_values answer sent.now) at out.old result out.new }
 {
     match answer {
         CallAnswer::Frame(_) => at,
@@ -46,7 +46,7 @@ fn put_values(out: &mut [u8], at: usize, answer: CallAnswer, sent: &[u8]) -> usi
 
 // The time and the status.
 fn put_read(out: &mut [u8], at: usize, read: ReadAnswer) -> usize
-    ensures { Puts (benchRead read) at out.old result out.new }
+    ensures { Puts (bench_read read) at out.old result out.new }
 {
     match read {
         ReadAnswer::Refused(_) => at,
@@ -56,7 +56,7 @@ fn put_read(out: &mut [u8], at: usize, read: ReadAnswer) -> usize
 
 // The frame count and the frame.
 fn put_cycle(out: &mut [u8], at: usize, cycle: CycleAnswer, sent: &[u8]) -> usize
-    ensures { Puts (benchCycle cycle sent.now) at out.old result out.new }
+    ensures { Puts (bench_cycle cycle sent.now) at out.old result out.new }
 {
     match cycle {
         CycleAnswer::Refused(_) => at,
@@ -74,7 +74,7 @@ fn put_cycle(out: &mut [u8], at: usize, cycle: CycleAnswer, sent: &[u8]) -> usiz
 
 // The frame.
 fn put_confirm(out: &mut [u8], at: usize, confirm: ConfirmAnswer, sent: &[u8]) -> usize
-    ensures { Puts (benchConfirm confirm sent.now) at out.old result out.new }
+    ensures { Puts (bench_confirm confirm sent.now) at out.old result out.new }
 {
     match confirm {
         ConfirmAnswer::Refused(_) => at,

@@ -5,13 +5,13 @@ use Prim.Native.Nat.{ℕ}
 use mathlib.Core.Path.{◌≡◌}
 use mathlib.Core.List.{List}
 use Rattle.promise.specs.Only.{OnlyOne}
-use Rattle.promise.proofs.Laws.{equation-only}
+use Rattle.promise.proofs.Laws.{equation_only}
 use Rattle.clock.specs.declared.reading.VirtualLocalTime.{VirtualLocalTime}
 use Rattle.domain.specs.declared.Domain.{Domain}
 use Rattle.call_frame.specs.declared.FrameCall.{FrameCall}
-use Rattle.call_frame.specs.FrameCall.{frameCallOf}
+use Rattle.call_frame.specs.FrameCall.{frame_call_of}
 
-pub frame-call-only :
+pub frame_call_only :
     (d : Domain) (kept t : VirtualLocalTime) (bytes : List ℕ) →
-    OnlyOne (λ (r : FrameCall). r ≡ frameCallOf d kept t bytes)
-frame-call-only d kept t bytes = equation-only _
+    OnlyOne (λ (r : FrameCall). r ≡ frame_call_of d kept t bytes)
+frame_call_only d kept t bytes = equation_only _

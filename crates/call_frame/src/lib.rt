@@ -1,6 +1,6 @@
 // A frame for one record (paper 01, "A slave's domain" and "Refusal numbers", and paper 02, request 5).
 ghost use Rattle.std.specs.Prelude.{◌≡◌};
-ghost use Rattle.call_frame.specs.FrameCall.{frameKept, frameCallOf};
+ghost use Rattle.call_frame.specs.FrameCall.{frame_kept, frame_call_of};
 
 use admission::{FrameAdmission, admit_frame, kept_after};
 use clock::VirtualLocalTime;
@@ -22,7 +22,7 @@ pub fn frame_call(
     t: VirtualLocalTime,
     bytes: &[u8],
 ) -> FrameCall
-    ensures { result ≡ frameCallOf domain kept t bytes.now }
+    ensures { result ≡ frame_call_of domain kept t bytes.now }
 {
     let settings = domain.settings;
     let role = settings.role;
@@ -47,7 +47,7 @@ pub fn frame_call(
 
 // The reading kept after a frame: its own after 0, and after 15.
 fn frame_kept(number: u8, kept: VirtualLocalTime, t: VirtualLocalTime) -> VirtualLocalTime
-    ensures { result ≡ frameKept number kept t }
+    ensures { result ≡ frame_kept number kept t }
 {
     if number == 15 {
         t

@@ -4,17 +4,17 @@
 use Prim.Native.Nat.{ℕ}
 use mathlib.Core.Path.{◌≡◌}
 use Rattle.promise.specs.Only.{OnlyOne}
-use Rattle.promise.proofs.Laws.{equation-only}
+use Rattle.promise.proofs.Laws.{equation_only}
 use Rattle.clock.specs.declared.reading.VirtualLocalTime.{VirtualLocalTime}
 use Rattle.domain.specs.declared.Domain.{Domain}
 use Rattle.call_read.specs.declared.ReadAnswer.{ReadAnswer}
-use Rattle.call_read.specs.ReadCall.{readCallOf}
-use Rattle.call_read.specs.Answer.{readNumber}
+use Rattle.call_read.specs.ReadCall.{read_call_of}
+use Rattle.call_read.specs.Answer.{read_number}
 
-pub read-call-only :
+pub read_call_only :
     (d : Domain) (kept : VirtualLocalTime) (asked : ℕ) (t : VirtualLocalTime) →
-    OnlyOne (λ (r : ReadAnswer). r ≡ readCallOf d kept asked t)
-read-call-only d kept asked t = equation-only _
+    OnlyOne (λ (r : ReadAnswer). r ≡ read_call_of d kept asked t)
+read_call_only d kept asked t = equation_only _
 
-pub number-only : (answer : ReadAnswer) → OnlyOne (λ (r : ℕ). r ≡ readNumber answer)
-number-only answer = equation-only _
+pub number_only : (answer : ReadAnswer) → OnlyOne (λ (r : ℕ). r ≡ read_number answer)
+number_only answer = equation_only _

@@ -6,13 +6,13 @@ use Rattle.call_read.specs.declared.ReadAnswer.{ReadAnswer}
 use Rattle.call_read.specs.declared.ReadAnswer.TheVariants.{Time, Refused}
 
 -- ---- "A refused call returns the number and zeros"
-abbrev pub readNumber : ReadAnswer → ℕ
-readNumber (Time shown) = 0
-readNumber (Refused refusal) = number_of refusal
+abbrev pub read_number : ReadAnswer → ℕ
+read_number (Time shown) = 0
+read_number (Refused refusal) = number_of refusal
 
-abbrev pub readValues : ReadAnswer → Shown
-readValues (Time shown) = shown
-readValues (Refused refusal) =
+abbrev pub read_values : ReadAnswer → Shown
+read_values (Time shown) = shown
+read_values (Refused refusal) =
     record {
       time = record { 0 = 0; 1 = 0 };
       status = 0;

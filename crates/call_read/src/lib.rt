@@ -1,8 +1,8 @@
 // A read of one record (paper 01, "Refusal numbers": "A read gives time, status, user bytes and update
 // counter together and never changes the state").
 ghost use Rattle.std.specs.Prelude.{◌≡◌};
-ghost use Rattle.call_read.specs.Answer.{readNumber};
-ghost use Rattle.call_read.specs.ReadCall.{statusFor, userFor, readCallOf};
+ghost use Rattle.call_read.specs.Answer.{read_number};
+ghost use Rattle.call_read.specs.ReadCall.{status_for, user_for, read_call_of};
 
 use admission::{Admission, Needed, admit};
 use clock::{GlobalTime, Held, VirtualLocalTime};
@@ -29,7 +29,7 @@ pub enum ReadAnswer {
 impl ReadAnswer {
     // The paper's number.
     pub fn number(self) -> u8
-        ensures { result ≡ readNumber self }
+        ensures { result ≡ read_number self }
     {
         match self {
             ReadAnswer::Time(_) => 0,
@@ -45,7 +45,7 @@ pub fn read_call(
     asked: u8,
     t: VirtualLocalTime,
 ) -> ReadAnswer
-    ensures { result ≡ readCallOf domain kept asked t }
+    ensures { result ≡ read_call_of domain kept asked t }
 {
     let settings = domain.settings;
     let role = settings.role;
@@ -72,7 +72,7 @@ pub fn read_call(
 
 // A master whose base is set shows that alone.
 fn status_for(role: Role, status: u8) -> u8
-    ensures { result ≡ statusFor role status }
+    ensures { result ≡ status_for role status }
 {
     match role {
         Role::Absent => status,
@@ -83,7 +83,7 @@ fn status_for(role: Role, status: u8) -> u8
 
 // A master shows the user bytes that it sends, any other those that it stored.
 fn user_for(role: Role, sent: UserBytes, stored: UserBytes) -> UserBytes
-    ensures { result ≡ userFor role sent stored }
+    ensures { result ≡ user_for role sent stored }
 {
     match role {
         Role::Absent => stored,

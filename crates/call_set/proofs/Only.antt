@@ -4,13 +4,13 @@
 use Prim.Native.Nat.{ℕ}
 use mathlib.Core.Path.{◌≡◌}
 use Rattle.promise.specs.Only.{OnlyOne}
-use Rattle.promise.proofs.Laws.{equation-only}
+use Rattle.promise.proofs.Laws.{equation_only}
 use Rattle.clock.specs.declared.reading.VirtualLocalTime.{VirtualLocalTime}
 use Rattle.domain.specs.declared.Domain.{Domain}
 use Rattle.call_set.specs.declared.SetCall.{SetCall}
-use Rattle.call_set.specs.SetCall.{setCallOf}
+use Rattle.call_set.specs.SetCall.{set_call_of}
 
-pub set-call-only :
+pub set_call_only :
     (d : Domain) (kept : VirtualLocalTime) (asked : ℕ) (t : VirtualLocalTime) (s n : ℕ) →
-    OnlyOne (λ (r : SetCall). r ≡ setCallOf d kept asked t s n)
-set-call-only d kept asked t s n = equation-only _
+    OnlyOne (λ (r : SetCall). r ≡ set_call_of d kept asked t s n)
+set_call_only d kept asked t s n = equation_only _

@@ -1,6 +1,6 @@
 // A set for one record (paper 01, "A master's domain" and "Refusal numbers").
 ghost use Rattle.std.specs.Prelude.{◌≡◌};
-ghost use Rattle.call_set.specs.SetCall.{setCallOf};
+ghost use Rattle.call_set.specs.SetCall.{set_call_of};
 
 use admission::{Admission, Needed, admit, kept_after};
 use clock::VirtualLocalTime;
@@ -23,7 +23,7 @@ pub fn set_call(
     seconds: u32,
     nanoseconds: u32,
 ) -> SetCall
-    ensures { result ≡ setCallOf domain kept asked t seconds nanoseconds }
+    ensures { result ≡ set_call_of domain kept asked t seconds nanoseconds }
 {
     let settings = domain.settings;
     let role = settings.role;

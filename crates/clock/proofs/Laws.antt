@@ -24,69 +24,69 @@ use Rattle.clock.specs.declared.time.GlobalTime.{GlobalTime}
 use Rattle.clock.specs.declared.base.TimeBase.{TimeBase}
 use Rattle.clock.specs.Reading.{span_of}
 use Rattle.clock.specs.Time.{
-  timeOf,
-  nanosecondsOf,
-  isTime,
-  isWithin,
+  time_of,
+  nanoseconds_of,
+  is_time,
+  is_within,
   Within,
   IsReceived,
   IsRead,
   carried,
   advanced,
 }
-use Rattle.clock.specs.Base.{timeAt}
+use Rattle.clock.specs.Base.{time_at}
 
 -- ---- the carry, over the width w of the seconds
 
-pub carry-exact :
+pub carry_exact :
     (w s n : ℕ) → s + n / 1000000000 < 2 ^ w →
     carried w s n * 1000000000 + n % 1000000000 ≡ s * 1000000000 + n
-carry-exact w s n h = omega arith
+carry_exact w s n h = omega arith
 
-pub carry-wider :
+pub carry_wider :
     (v w s n : ℕ) → v ≤ w → s + n / 1000000000 < 2 ^ v → carried w s n ≡ carried v s n
-carry-wider v w s n le h = omega (arith, pow_mono le)
+carry_wider v w s n le h = omega (arith, pow_mono le)
 
-pub carry-bound : (w s n : ℕ) → carried w s n < 2 ^ w
-carry-bound w s n = omega (arith, pow_pos w)
+pub carry_bound : (w s n : ℕ) → carried w s n < 2 ^ w
+carry_bound w s n = omega (arith, pow_pos w)
 
 -- ---- a span later
 
-pub advance-exact :
+pub advance_exact :
     (g : GlobalTime) (span : ℕ) → g.0 + (g.1 + span) / 1000000000 < 2 ^ 64 →
-    nanosecondsOf (advanced g span) ≡ nanosecondsOf g + span
-advance-exact g span h = omega (arith, carry-exact 64 g.0 (g.1 + span) h)
+    nanoseconds_of (advanced g span) ≡ nanoseconds_of g + span
+advance_exact g span h = omega (arith, carry_exact 64 g.0 (g.1 + span) h)
 
-pub advance-good : (g : GlobalTime) (span : ℕ) → (advanced g span).1 ≤ 999999999
-advance-good g span = omega arith
+pub advance_good : (g : GlobalTime) (span : ℕ) → (advanced g span).1 ≤ 999999999
+advance_good g span = omega arith
 
-pub advance-add : (g : GlobalTime) (a b : ℕ) → advanced (advanced g a) b ≡ advanced g (a + b)
-advance-add g a b = ap₂ timeOf (omega arith) (omega arith)
+pub advance_add : (g : GlobalTime) (a b : ℕ) → advanced (advanced g a) b ≡ advanced g (a + b)
+advance_add g a b = ap₂ time_of (omega arith) (omega arith)
 
 -- ---- a base's time
 
-pub time-later :
+pub time_later :
     (b : TimeBase) (t u : VirtualLocalTime) → b.at.0 ≤ t.0 → t.0 ≤ u.0 →
-    timeAt b u ≡ advanced (timeAt b t) (span_of t u)
-time-later b t u from to =
+    time_at b u ≡ advanced (time_at b t) (span_of t u)
+time_later b t u from to =
     ap (advanced b.time) (omega arith)
-    ∙ sym (advance-add b.time (span_of b.at t) (span_of t u))
+    ∙ sym (advance_add b.time (span_of b.at t) (span_of t u))
 
 module _ (b : TimeBase) (t : VirtualLocalTime) (good : IsReceived b.time)
-    (in-range : t.0 ≤ 1000000000000000000) where
-  pub time-exact : nanosecondsOf (timeAt b t) ≡ nanosecondsOf b.time + span_of b.at t
-  time-exact = advance-exact b.time (span_of b.at t) (omega arith)
+    (in_range : t.0 ≤ 1000000000000000000) where
+  pub time_exact : nanoseconds_of (time_at b t) ≡ nanoseconds_of b.time + span_of b.at t
+  time_exact = advance_exact b.time (span_of b.at t) (omega arith)
 
-  pub read-bound : IsRead (timeAt b t)
-  read-bound = omega arith
+  pub read_bound : IsRead (time_at b t)
+  read_bound = omega arith
 
 -- ---- the ranges
 
 module _ (seconds : ℕ) (g : GlobalTime) where
-  pub within-told : isWithin seconds g ≡ true → Within seconds g
-  within-told e =
-      let told = both (leb g.0 seconds) (isTime g) e in
+  pub within_told : is_within seconds g ≡ true → Within seconds g
+  within_told e =
+      let told = both (leb g.0 seconds) (is_time g) e in
       record { whole = leb-true _ _ told.0; part = leb-true _ _ told.1 }
 
-  pub within-is : Within seconds g → isWithin seconds g ≡ true
-  within-is w = rw (le-leb _ _ w.whole, le-leb _ _ w.part) refl
+  pub within_is : Within seconds g → is_within seconds g ≡ true
+  within_is w = rw (le-leb _ _ w.whole, le-leb _ _ w.part) refl

@@ -3,16 +3,16 @@ use Rattle.std.specs.Prelude.{ℕ, suc, ◌-◌, ◌*◌, ◌^◌, min, cond, lt
 use Rattle.clock.specs.declared.time.GlobalTime.{GlobalTime}
 use Rattle.clock.specs.declared.apart.Apart.{Apart}
 use Rattle.clock.specs.declared.apart.Apart.TheVariants.{Ahead, Behind}
-use Rattle.clock.specs.Time.{nanosecondsOf}
+use Rattle.clock.specs.Time.{nanoseconds_of}
 
-abbrev pub heldSpan : ℕ → ℕ
-heldSpan m = min m (2 ^ 63 - 1)
+abbrev pub held_span : ℕ → ℕ
+held_span m = min m (2 ^ 63 - 1)
 
-abbrev pub nearSpan : ℕ → ℕ
-nearSpan s = min s 11000000000 * 1000000000
+abbrev pub near_span : ℕ → ℕ
+near_span s = min s 11000000000 * 1000000000
 
-abbrev pub apartOf : GlobalTime → GlobalTime → Apart
-apartOf a b =
-    cond (ltb (nanosecondsOf a) (nanosecondsOf b))
-    (Behind (heldSpan (nanosecondsOf b - suc (nanosecondsOf a))))
-    (Ahead (heldSpan (nanosecondsOf a - nanosecondsOf b)))
+abbrev pub apart_of : GlobalTime → GlobalTime → Apart
+apart_of a b =
+    cond (ltb (nanoseconds_of a) (nanoseconds_of b))
+    (Behind (held_span (nanoseconds_of b - suc (nanoseconds_of a))))
+    (Ahead (held_span (nanoseconds_of a - nanoseconds_of b)))

@@ -4,8 +4,8 @@ use Rattle.std.specs.Prelude.{ℕ, ◌+◌, ◌/◌, ◌%◌}
 use Rattle.clock.specs.declared.over.Over.{Over}
 
 -- ---- "the whole seconds beyond those sent, and the nanoseconds"
-abbrev pub overOf : (nanoseconds span : ℕ) → Over
-overOf nanoseconds span =
+abbrev pub over_of : (nanoseconds span : ℕ) → Over
+over_of nanoseconds span =
     record {
       seconds = (nanoseconds + span) / 1000000000;
       nanoseconds = (nanoseconds + span) % 1000000000;

@@ -3,49 +3,49 @@ use Rattle.std.specs.Prelude.{ℕ, ◌+◌, ◌-◌, ◌*◌, ◌/◌, ◌%◌, 
 use Rattle.clock.specs.declared.time.GlobalTime.{GlobalTime}
 
 -- ---- "Global time: seconds and nanoseconds, nanoseconds 0 to 999,999,999."
-abbrev pub mostNanoseconds : ℕ
-mostNanoseconds = 999999999
+abbrev pub most_nanoseconds : ℕ
+most_nanoseconds = 999999999
 
-abbrev pub isNanoseconds : ℕ → Bool
-isNanoseconds n = leb n mostNanoseconds
+abbrev pub is_nanoseconds : ℕ → Bool
+is_nanoseconds n = leb n most_nanoseconds
 
-abbrev pub isTime : GlobalTime → Bool
-isTime g = isNanoseconds g.1
+abbrev pub is_time : GlobalTime → Bool
+is_time g = is_nanoseconds g.1
 
 -- a time by its parts
-abbrev pub timeOf : (seconds nanoseconds : ℕ) → GlobalTime
-timeOf s n = record { 0 = s; 1 = n }
+abbrev pub time_of : (seconds nanoseconds : ℕ) → GlobalTime
+time_of s n = record { 0 = s; 1 = n }
 
 -- all of a time in nanoseconds
-abbrev pub nanosecondsOf : GlobalTime → ℕ
-nanosecondsOf g = g.0 * 1000000000 + g.1
+abbrev pub nanoseconds_of : GlobalTime → ℕ
+nanoseconds_of g = g.0 * 1000000000 + g.1
 
 -- ---- "A time that is set by the user has seconds 0 to 4,294,967,295 (32 bits). A received time is at
 -- most 4,294,967,298 seconds, and a read time at most 5,294,967,298 seconds plus the nanoseconds."
-abbrev pub mostSet : ℕ
-mostSet = 4294967295
+abbrev pub most_set : ℕ
+most_set = 4294967295
 
-abbrev pub mostReceived : ℕ
-mostReceived = 4294967298
+abbrev pub most_received : ℕ
+most_received = 4294967298
 
-abbrev pub mostRead : ℕ
-mostRead = 5294967298
+abbrev pub most_read : ℕ
+most_read = 5294967298
 
-abbrev pub isWithin : (seconds : ℕ) → GlobalTime → Bool
-isWithin seconds g = leb g.0 seconds && isTime g
+abbrev pub is_within : (seconds : ℕ) → GlobalTime → Bool
+is_within seconds g = leb g.0 seconds && is_time g
 
 pub record Within (seconds : ℕ) (g : GlobalTime) : Type 0 where
   pub whole : g.0 ≤ seconds
-  pub part : g.1 ≤ mostNanoseconds
+  pub part : g.1 ≤ most_nanoseconds
 
 abbrev pub IsSet : GlobalTime → Type 0
-IsSet = Within mostSet
+IsSet = Within most_set
 
 abbrev pub IsReceived : GlobalTime → Type 0
-IsReceived = Within mostReceived
+IsReceived = Within most_received
 
 abbrev pub IsRead : GlobalTime → Type 0
-IsRead = Within mostRead
+IsRead = Within most_read
 
 -- ---- The carry of n nanoseconds into seconds of w bits, held at the last of the width.
 abbrev pub carried : (w s n : ℕ) → ℕ

@@ -1,8 +1,8 @@
 // How far two global times stand apart, by comparing first and then subtracting: no number here
 // leaves 64 bits, and none has a sign. The order and the difference are made of it.
 ghost use Rattle.std.specs.Prelude.{◌≡◌, ◌^◌, ◌≤◌};
-ghost use Rattle.clock.specs.Apart.{apartOf, heldSpan, nearSpan};
-ghost use Rattle.clock.specs.Time.{timeOf};
+ghost use Rattle.clock.specs.Apart.{apart_of, held_span, near_span};
+ghost use Rattle.clock.specs.Time.{time_of};
 
 use crate::GlobalTime;
 
@@ -14,7 +14,7 @@ pub enum Apart {
 }
 
 pub fn compare(a: GlobalTime, b: GlobalTime) -> Apart
-    ensures { result ≡ apartOf a b }
+    ensures { result ≡ apart_of a b }
 {
     compare_parts(a, b.0, b.1 as u64)
 }
@@ -22,7 +22,7 @@ pub fn compare(a: GlobalTime, b: GlobalTime) -> Apart
 // The same against a time that is given in parts: its nanoseconds may be those of a time and of all readings together.
 pub(crate) fn compare_parts(a: GlobalTime, seconds: u64, nanoseconds: u64) -> Apart
     requires { nanoseconds ≤ 2 ^ 60 }
-    ensures { result ≡ apartOf a (timeOf seconds nanoseconds) }
+    ensures { result ≡ apart_of a (time_of seconds nanoseconds) }
 {
     let more = a.1 as u64;
     if seconds <= a.0 {
@@ -43,7 +43,7 @@ pub(crate) fn compare_parts(a: GlobalTime, seconds: u64, nanoseconds: u64) -> Ap
 }
 
 fn held_span(m: u64) -> u64
-    ensures { result ≡ heldSpan m }
+    ensures { result ≡ held_span m }
 {
     if m < 0x7FFF_FFFF_FFFF_FFFF {
         m
@@ -54,7 +54,7 @@ fn held_span(m: u64) -> u64
 
 // Seconds in nanoseconds, where 11 * 10^9 stand for more: less 2^60 nanoseconds they are beyond 63 bits all the same.
 fn near_span(seconds: u64) -> u64
-    ensures { result ≡ nearSpan seconds }
+    ensures { result ≡ near_span seconds }
 {
     if seconds < 11_000_000_000 {
         seconds * GlobalTime::SECOND

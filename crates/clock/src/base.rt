@@ -1,6 +1,6 @@
 // A base (paper 01, "Two clocks"): where the two clocks meet.
 ghost use Rattle.std.specs.Prelude.{◌≡◌};
-ghost use Rattle.clock.specs.Base.{base_of, timeAt, PartsOf};
+ghost use Rattle.clock.specs.Base.{base_of, time_at, PartsOf};
 
 use crate::reading::VirtualLocalTime;
 use crate::time::GlobalTime;
@@ -36,7 +36,7 @@ impl TimeBase {
 
     // Its time at a reading: the held time where that reading is an earlier one.
     pub fn time_at(self, t: VirtualLocalTime) -> GlobalTime
-        ensures { result ≡ timeAt self t }
+        ensures { result ≡ time_at self t }
     {
         let time = self.time;
         let at = self.at;
@@ -46,7 +46,7 @@ impl TimeBase {
     // The same in parts. Nothing is divided where what has passed is within the range of readings, and the seconds are
     // below 2^63, so that no carry meets their end.
     pub(crate) fn parts_at(self, t: VirtualLocalTime) -> Parts
-        ensures { PartsOf (timeAt self t) result }
+        ensures { PartsOf (time_at self t) result }
     {
         let time = self.time;
         let at = self.at;

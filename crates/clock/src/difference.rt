@@ -1,9 +1,9 @@
 // The order of two global times, and their difference D with its thresholds (paper 01, "A slave's domain").
 // Nothing here refuses.
 ghost use Rattle.std.specs.Prelude.{◌≡◌, ◌^◌, ◌≤◌, nat_abs};
-ghost use Rattle.clock.specs.Time.{timeOf};
-ghost use Rattle.clock.specs.Base.{timeAt};
-ghost use Rattle.clock.specs.Difference.{order_of, differenceOf, exceeds, minusExceeds};
+ghost use Rattle.clock.specs.Time.{time_of};
+ghost use Rattle.clock.specs.Base.{time_at};
+ghost use Rattle.clock.specs.Difference.{order_of, difference_of, exceeds, minus_exceeds};
 
 use crate::apart::{Apart, compare, compare_parts};
 use crate::{GlobalTime, TimeBase, VirtualLocalTime};
@@ -32,14 +32,14 @@ pub fn order(a: GlobalTime, b: GlobalTime) -> TimeOrder
 
 // The difference D, a minus b: the nearer end where it does not fit.
 pub fn minus(a: GlobalTime, b: GlobalTime) -> i64
-    ensures { result ≡ differenceOf a b }
+    ensures { result ≡ difference_of a b }
 {
     minus_parts(a, b.0, b.1 as u64)
 }
 
 // D against a base's time at a reading.
 pub fn minus_at(a: GlobalTime, base: TimeBase, t: VirtualLocalTime) -> i64
-    ensures { result ≡ differenceOf a (timeAt base t) }
+    ensures { result ≡ difference_of a (time_at base t) }
 {
     let b = base.parts_at(t);
     minus_parts(a, b.seconds, b.nanoseconds)
@@ -47,7 +47,7 @@ pub fn minus_at(a: GlobalTime, base: TimeBase, t: VirtualLocalTime) -> i64
 
 fn minus_parts(a: GlobalTime, seconds: u64, nanoseconds: u64) -> i64
     requires { nanoseconds ≤ 2 ^ 60 }
-    ensures { result ≡ differenceOf a (timeOf seconds nanoseconds) }
+    ensures { result ≡ difference_of a (time_of seconds nanoseconds) }
 {
     match compare_parts(a, seconds, nanoseconds) {
         Apart::Ahead(m) => m as i64,
@@ -75,7 +75,7 @@ pub fn exceeds(d: i64, threshold: u64) -> bool
 
 // Whether minus D exceeds a threshold.
 pub fn minus_exceeds(d: i64, threshold: u64) -> bool
-    ensures { result ≡ minusExceeds d threshold }
+    ensures { result ≡ minus_exceeds d threshold }
 {
     if d < 0 {
         threshold < magnitude(d)

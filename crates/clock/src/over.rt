@@ -3,7 +3,7 @@
 // controller's long division (paper 02, request 2), and a time that is read is spared one. A loop that subtracts is
 // compiled back into that division; straight steps are not. `tools/controller` looks at what the compiler made.
 ghost use Rattle.std.specs.Prelude.{◌≡◌};
-ghost use Rattle.clock.specs.Over.{overOf};
+ghost use Rattle.clock.specs.Over.{over_of};
 
 // Whole seconds, and the nanoseconds beside them.
 #[derive(Drop)]
@@ -14,7 +14,7 @@ pub struct Over {
 
 // What comes over of some nanoseconds a span later. Any two numbers of 32 bits are less than 9 seconds together.
 pub fn carried_over(nanoseconds: u32, span: u32) -> Over
-    ensures { result ≡ overOf nanoseconds span }
+    ensures { result ≡ over_of nanoseconds span }
 {
     let mut rest = (nanoseconds as u64) + (span as u64);
     let mut seconds: u8 = 0;

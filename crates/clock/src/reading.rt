@@ -1,6 +1,6 @@
 // Local readings (paper 01, "Two clocks"): nanoseconds of the one clock of a node.
 ghost use Rattle.std.specs.Prelude.{◌≡◌};
-ghost use Rattle.clock.specs.Reading.{isReading, span_of};
+ghost use Rattle.clock.specs.Reading.{is_reading, span_of};
 
 // A reading of the local clock, in nanoseconds.
 #[derive(Drop)]
@@ -12,7 +12,7 @@ impl VirtualLocalTime {
 
     // Whether it is at most MAX.
     pub fn is_reading(self) -> bool
-        ensures { result ≡ isReading self }
+        ensures { result ≡ is_reading self }
     {
         self.0 <= VirtualLocalTime::MAX.0
     }

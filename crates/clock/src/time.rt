@@ -1,6 +1,6 @@
 // Global times (paper 01, "Two clocks"), and the time a span later.
 ghost use Rattle.std.specs.Prelude.{◌≡◌};
-ghost use Rattle.clock.specs.Time.{isTime, isWithin, mostReceived, mostRead, advanced};
+ghost use Rattle.clock.specs.Time.{is_time, is_within, most_received, most_read, advanced};
 
 use crate::over::carried_over;
 
@@ -23,27 +23,27 @@ impl GlobalTime {
 
     // Whether its nanoseconds are at most NANOSECONDS_MAX.
     pub fn is_time(self) -> bool
-        ensures { result ≡ isTime self }
+        ensures { result ≡ is_time self }
     {
         self.1 <= GlobalTime::NANOSECONDS_MAX
     }
 
     // Whether it is a time that can be received.
     pub fn is_received(self) -> bool
-        ensures { result ≡ isWithin mostReceived self }
+        ensures { result ≡ is_within most_received self }
     {
         self.is_within(GlobalTime::RECEIVED_SECONDS_MAX)
     }
 
     // Whether it is a time that can be read.
     pub fn is_read(self) -> bool
-        ensures { result ≡ isWithin mostRead self }
+        ensures { result ≡ is_within most_read self }
     {
         self.is_within(GlobalTime::READ_SECONDS_MAX)
     }
 
     fn is_within(self, seconds: u64) -> bool
-        ensures { result ≡ isWithin seconds self }
+        ensures { result ≡ is_within seconds self }
     {
         if self.0 <= seconds {
             self.is_time()

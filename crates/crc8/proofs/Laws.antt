@@ -11,32 +11,32 @@ use Prim.Native.Nat.{ℕ, ◌*◌, ◌<◌}
 use native.Mathlib.Nat.{mod-lt}
 use lib.Bits.{xor_lt}
 use lib.Dec.{leb, lit<}
-use Rattle.crc8.specs.Crc8.{step_of, eightStepsOf, remainderOf, crcOf, checkOf}
+use Rattle.crc8.specs.Crc8.{step_of, eight_steps_of, remainder_of, crc_of, check_of}
 
 -- ---- bounds
 
-cond-bound : (b : Bool) {x y n : ℕ} → x < n → y < n → cond b x y < n
-cond-bound true hx hy = hx
-cond-bound false hx hy = hy
+cond_bound : (b : Bool) {x y n : ℕ} → x < n → y < n → cond b x y < n
+cond_bound true hx hy = hx
+cond_bound false hx hy = hy
 
-pub step-bound : (remainder : ℕ) → step_of remainder < 0x100
+pub step_bound : (remainder : ℕ) → step_of remainder < 0x100
 unfolding step_of
-step-bound remainder =
+step_bound remainder =
     let doubled = mod-lt (remainder * 2) (lit< tt) in
-    cond-bound (leb 0x80 remainder) (xor_lt 8 _ _ doubled (lit< tt)) doubled
+    cond_bound (leb 0x80 remainder) (xor_lt 8 _ _ doubled (lit< tt)) doubled
 
-pub eight-steps-bound : (remainder : ℕ) → eightStepsOf remainder < 0x100
-unfolding eightStepsOf
-eight-steps-bound remainder = step-bound _
+pub eight_steps_bound : (remainder : ℕ) → eight_steps_of remainder < 0x100
+unfolding eight_steps_of
+eight_steps_bound remainder = step_bound _
 
-pub remainder-bound : (start : ℕ) (bytes : List ℕ) → start < 0x100 → remainderOf start bytes < 0x100
-remainder-bound start [] h = h
-remainder-bound start (byte ∷ bytes) h = remainder-bound _ bytes (eight-steps-bound _)
+pub remainder_bound : (start : ℕ) (bytes : List ℕ) → start < 0x100 → remainder_of start bytes < 0x100
+remainder_bound start [] h = h
+remainder_bound start (byte ∷ bytes) h = remainder_bound _ bytes (eight_steps_bound _)
 
-pub crc-bound : (bytes : List ℕ) → crcOf bytes < 0x100
-unfolding crcOf
-crc-bound bytes = xor_lt 8 _ _ (remainder-bound _ bytes (lit< tt)) (lit< tt)
+pub crc_bound : (bytes : List ℕ) → crc_of bytes < 0x100
+unfolding crc_of
+crc_bound bytes = xor_lt 8 _ _ (remainder_bound _ bytes (lit< tt)) (lit< tt)
 
-pub check-bound : (bytes : List ℕ) (dataId : ℕ) → checkOf bytes dataId < 0x100
-unfolding checkOf
-check-bound bytes dataId = crc-bound (bytes ++ (dataId ∷ []))
+pub check_bound : (bytes : List ℕ) (dataId : ℕ) → check_of bytes dataId < 0x100
+unfolding check_of
+check_bound bytes dataId = crc_bound (bytes ++ (dataId ∷ []))

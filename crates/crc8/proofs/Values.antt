@@ -13,11 +13,11 @@ abbrev pub values_of : (ℕ → ℕ) → ℕ → List ℕ
 values_of f zero = []
 values_of f (suc n) = f 0 ∷ values_of (λ k. f (suc k)) n
 
-pub values-at : (f : ℕ → ℕ) (n k : ℕ) → k < n → get_or (values_of f n) k 0 ≡ f k
-values-at f zero k h = absurd (not-suc-le-zero h)
-values-at f (suc n) zero h = refl
-values-at f (suc n) (suc k) h = values-at (λ j. f (suc j)) n k (le_of_suc-le-suc h)
+pub values_at : (f : ℕ → ℕ) (n k : ℕ) → k < n → get_or (values_of f n) k 0 ≡ f k
+values_at f zero k h = absurd (not-suc-le-zero h)
+values_at f (suc n) zero h = refl
+values_at f (suc n) (suc k) h = values_at (λ j. f (suc j)) n k (le_of_suc-le-suc h)
 
-pub values-all : (l : List ℕ) → values_of (λ k. get_or l k 0) (length l) ≡ l
-values-all [] = refl
-values-all (x ∷ l) = ap (λ (rest : List ℕ). x ∷ rest) (values-all l)
+pub values_all : (l : List ℕ) → values_of (λ k. get_or l k 0) (length l) ≡ l
+values_all [] = refl
+values_all (x ∷ l) = ap (λ (rest : List ℕ). x ∷ rest) (values_all l)

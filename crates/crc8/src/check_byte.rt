@@ -1,7 +1,7 @@
 // Paper 01, "Frames": CRC8H2F, a byte at a time through the table, with "start 0xFF, final
 // exclusive-or 0xFF". One loop serves `crc` and `check`, and each takes the table once.
 ghost use Rattle.std.specs.Prelude.{◌≡◌};
-ghost use Rattle.crc8.specs.Crc8.{EightStepsEach, byteStepOf, remainderOf, crcOf, checkOf};
+ghost use Rattle.crc8.specs.Crc8.{EightStepsEach, byte_step_of, remainder_of, crc_of, check_of};
 
 use crate::table::{entries, look_up};
 
@@ -11,7 +11,7 @@ const FINAL: u8 = 0xFF;
 
 // The remainder after one more byte.
 pub fn byte_step(remainder: u8, byte: u8) -> u8
-    ensures { result ≡ byteStepOf remainder byte }
+    ensures { result ≡ byte_step_of remainder byte }
 {
     step(&entries(), remainder, byte)
 }
@@ -19,7 +19,7 @@ pub fn byte_step(remainder: u8, byte: u8) -> u8
 // The same, by a lent table.
 fn step(table: &[u8; 256], remainder: u8, byte: u8) -> u8
     requires { EightStepsEach table.now }
-    ensures { result ≡ byteStepOf remainder byte }
+    ensures { result ≡ byte_step_of remainder byte }
 {
     look_up(table, remainder ^ byte)
 }
@@ -27,7 +27,7 @@ fn step(table: &[u8; 256], remainder: u8, byte: u8) -> u8
 // The remainder after `bytes`: `start` itself where there are none.
 fn remainder(table: &[u8; 256], start: u8, bytes: &[u8]) -> u8
     requires { EightStepsEach table.now }
-    ensures { result ≡ remainderOf start bytes.now }
+    ensures { result ≡ remainder_of start bytes.now }
 {
     let mut r = start;
     let mut i = 0;
@@ -40,14 +40,14 @@ fn remainder(table: &[u8; 256], start: u8, bytes: &[u8]) -> u8
 
 // CRC8H2F of `bytes`: 0 where there are none.
 pub fn crc(bytes: &[u8]) -> u8
-    ensures { result ≡ crcOf bytes.now }
+    ensures { result ≡ crc_of bytes.now }
 {
     remainder(&entries(), START, bytes) ^ FINAL
 }
 
 // CRC8H2F of `bytes` and then the DataID.
 pub fn check(bytes: &[u8], data_id: u8) -> u8
-    ensures { result ≡ checkOf bytes.now data_id }
+    ensures { result ≡ check_of bytes.now data_id }
 {
     let table = entries();
     step(&table, remainder(&table, START, bytes), data_id) ^ FINAL

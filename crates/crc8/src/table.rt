@@ -1,7 +1,7 @@
 // Paper 01, "Frames": "a constant table of 256 bytes, whose rule is stated over all of it". The
 // rule is the promise of `entries`, by which every look-up goes.
 ghost use Rattle.std.specs.Prelude.{◌≡◌};
-ghost use Rattle.crc8.specs.Crc8.{eightStepsOf, EightStepsEach};
+ghost use Rattle.crc8.specs.Crc8.{eight_steps_of, EightStepsEach};
 
 // A comment has the index of the entry below it.
 const TABLE: [u8; 256] = [
@@ -50,14 +50,14 @@ pub(crate) fn entries() -> [u8; 256]
 // What a lent table holds at `index`.
 pub(crate) fn look_up(table: &[u8; 256], index: u8) -> u8
     requires { EightStepsEach table.now }
-    ensures { result ≡ eightStepsOf index }
+    ensures { result ≡ eight_steps_of index }
 {
     table[index as usize]
 }
 
 // What the table holds at `index`.
 pub fn entry(index: u8) -> u8
-    ensures { result ≡ eightStepsOf index }
+    ensures { result ≡ eight_steps_of index }
 {
     look_up(&entries(), index)
 }

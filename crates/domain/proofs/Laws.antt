@@ -7,10 +7,10 @@ use mathlib.Core.Path.{◌≡◌, refl}
 use native.Mathlib.Omega.{arith}
 use prog.Memory.{size}
 use Rattle.domain.proofs.Domain.TheLaws.{mir}
-use Rattle.domain.specs.Updates.{nextUpdate}
+use Rattle.domain.specs.Updates.{next_update}
 
-pub record-size : size mir ≡ 200
-record-size = refl
+pub record_size : size mir ≡ 200
+record_size = refl
 
-pub update-bound : (updates : ℕ) → nextUpdate updates < 256
-update-bound updates = omega arith
+pub update_bound : (updates : ℕ) → next_update updates < 256
+update_bound updates = omega arith

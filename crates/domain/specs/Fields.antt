@@ -7,11 +7,11 @@ use Rattle.domain.specs.declared.Pairing.{Pairing}
 use Rattle.domain.specs.declared.LastSync.{LastSync}
 use Rattle.domain.specs.declared.Sending.{Sending}
 use Rattle.domain.specs.declared.Leap.{Leap}
-use Rattle.domain.specs.Updates.{nextUpdate}
+use Rattle.domain.specs.Updates.{next_update}
 
 -- ---- Either role's: the base, and "The update counter rises by 1".
-abbrev pub withBase : Domain → Held → Domain
-withBase d base =
+abbrev pub with_base : Domain → Held → Domain
+with_base d base =
     record {
       settings = d.settings;
       base = base;
@@ -26,8 +26,8 @@ withBase d base =
       next_counter = d.next_counter;
     }
 
-abbrev pub withUpdate : Domain → Domain
-withUpdate d =
+abbrev pub with_update : Domain → Domain
+with_update d =
     record {
       settings = d.settings;
       base = d.base;
@@ -38,13 +38,13 @@ withUpdate d =
       user = d.user;
       sgw = d.sgw;
       leap = d.leap;
-      updates = nextUpdate d.updates;
+      updates = next_update d.updates;
       next_counter = d.next_counter;
     }
 
 -- ---- A slave's: the pairing, the SYNC accepted last, what is stored at a FUP.
-abbrev pub withPairing : Domain → Pairing → Domain
-withPairing d pairing =
+abbrev pub with_pairing : Domain → Pairing → Domain
+with_pairing d pairing =
     record {
       settings = d.settings;
       base = d.base;
@@ -75,8 +75,8 @@ with_last d last =
       next_counter = d.next_counter;
     }
 
-abbrev pub withStored : Domain → UserBytes → Bool → Leap → Domain
-withStored d user sgw leap =
+abbrev pub with_stored : Domain → UserBytes → Bool → Leap → Domain
+with_stored d user sgw leap =
     record {
       settings = d.settings;
       base = d.base;
@@ -92,8 +92,8 @@ withStored d user sgw leap =
     }
 
 -- ---- A master's: the SYNC sent last, the counter to send next.
-abbrev pub withSending : Domain → Sending → Domain
-withSending d sending =
+abbrev pub with_sending : Domain → Sending → Domain
+with_sending d sending =
     record {
       settings = d.settings;
       base = d.base;

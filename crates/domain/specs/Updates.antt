@@ -2,5 +2,5 @@
 use Rattle.std.specs.Prelude.{ℕ, ◌+◌, ◌%◌}
 
 -- ---- "The update counter rises by 1, from 255 to 0."
-abbrev pub nextUpdate : ℕ → ℕ
-nextUpdate updates = (updates + 1) % 256
+abbrev pub next_update : ℕ → ℕ
+next_update updates = (updates + 1) % 256

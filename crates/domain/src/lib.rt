@@ -4,7 +4,7 @@
 // here, and the one rule that both roles share; `slave_sync`, `master_set` and the like have the others.
 ghost use Rattle.std.specs.Prelude.{◌≡◌};
 ghost use Rattle.domain.specs.Fresh.{fresh_of};
-ghost use Rattle.domain.specs.Updates.{nextUpdate};
+ghost use Rattle.domain.specs.Updates.{next_update};
 
 use clock::{Held, VirtualLocalTime};
 use settings::{DomainSettings, UserBytes};
@@ -100,7 +100,7 @@ impl Domain {
 
 // The update counter after one more update: from 255 to 0.
 pub fn next_update(updates: u8) -> u8
-    ensures { result ≡ nextUpdate updates }
+    ensures { result ≡ next_update updates }
 {
     if updates < 255 { updates + 1 } else { 0 }
 }

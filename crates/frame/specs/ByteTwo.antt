@@ -6,11 +6,11 @@ abbrev pub counters : ℕ
 counters = 16
 
 -- ---- "domain in bits 7-4, counter in bits 3-0"
-abbrev pub domainOf : ℕ → ℕ
-domainOf two = two / 16
+abbrev pub domain_of : ℕ → ℕ
+domain_of two = two / 16
 
-abbrev pub counterOf : ℕ → ℕ
-counterOf two = two % 16
+abbrev pub counter_of : ℕ → ℕ
+counter_of two = two % 16
 
-abbrev pub byteTwoOf : ℕ → ℕ → ℕ
-byteTwoOf domain counter = domain % 16 * 16 + counter % 16
+abbrev pub byte_two_of : ℕ → ℕ → ℕ
+byte_two_of domain counter = domain % 16 * 16 + counter % 16

@@ -5,11 +5,11 @@ use Rattle.frame.specs.declared.values.Frame.TheVariants.{Sync as sync, Fup as f
 use Rattle.frame.specs.declared.values.Protection.{Protection}
 
 -- ---- the domain that they name
-abbrev pub domainIn : Frame → ℕ
-domainIn (sync s) = s.domain
-domainIn (fup f) = f.domain
+abbrev pub domain_in : Frame → ℕ
+domain_in (sync s) = s.domain
+domain_in (fup f) = f.domain
 
 -- ---- plain or secured
-abbrev pub protectionIn : Frame → Protection
-protectionIn (sync s) = s.protection
-protectionIn (fup f) = f.protection
+abbrev pub protection_in : Frame → Protection
+protection_in (sync s) = s.protection
+protection_in (fup f) = f.protection

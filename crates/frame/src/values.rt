@@ -1,7 +1,7 @@
 // The values of a frame (paper 01, "Frames"): its type and its fields, but for reserved bits and
 // check byte.
 ghost use Rattle.std.specs.Prelude.{◌≡◌};
-ghost use Rattle.frame.specs.Values.{domainIn};
+ghost use Rattle.frame.specs.Values.{domain_in};
 
 // Plain, with the user byte that byte 1 carries, 1 in a SYNC and 2 in a FUP; or secured, where byte 1
 // is the check byte and no value.
@@ -41,7 +41,7 @@ pub enum Frame {
 impl Frame {
     // The domain that the values name.
     pub fn domain(self) -> u8
-        ensures { result ≡ domainIn self }
+        ensures { result ≡ domain_in self }
     {
         match self {
             Frame::Sync(sync) => sync.domain,

@@ -1,6 +1,6 @@
 -- Paper 01, "Frames": the check modes, "each frame judged on its own". Assumes nothing.
 use Rattle.std.specs.Prelude.{ℕ, Bool, true, false, cond, List, eqb, length, get_or, drop}
-use Rattle.crc8.specs.Crc8.{checkOf}
+use Rattle.crc8.specs.Crc8.{check_of}
 use Rattle.frame.specs.declared.data_ids.DataIds.{DataIds}
 use Rattle.frame.specs.declared.types.FrameType.{FrameType}
 use Rattle.frame.specs.declared.types.FrameType.TheVariants.{
@@ -18,34 +18,34 @@ use Rattle.frame_check.specs.declared.CheckMode.TheVariants.{
   Optional,
 }
 use Rattle.frame.specs.Types.{type_of}
-use Rattle.frame.specs.ByteTwo.{counterOf}
+use Rattle.frame.specs.ByteTwo.{counter_of}
 use Rattle.frame.specs.Ids.{id_at}
 
 -- ---- "validated takes only secured frames with a right check byte; not validated takes only plain
 -- frames; ignored takes both and does not look at the check byte; optional takes plain frames, and
 -- secured ones with a right check byte"
-abbrev pub takesPlain : CheckMode → Bool
-takesPlain Validated = false
-takesPlain NotValidated = true
-takesPlain Ignored = true
-takesPlain Optional = true
+abbrev pub takes_plain : CheckMode → Bool
+takes_plain Validated = false
+takes_plain NotValidated = true
+takes_plain Ignored = true
+takes_plain Optional = true
 
-abbrev pub takesSecured : CheckMode → Bool → Bool
-takesSecured Validated right = right
-takesSecured NotValidated right = false
-takesSecured Ignored right = true
-takesSecured Optional right = right
+abbrev pub takes_secured : CheckMode → Bool → Bool
+takes_secured Validated right = right
+takes_secured NotValidated right = false
+takes_secured Ignored right = true
+takes_secured Optional right = right
 
 -- ---- the check byte "over bytes 2 to 7", as received, "and then the DataID that the list for this
 -- kind of frame holds at the counter"
-abbrev pub isRight : List ℕ → List ℕ → Bool
-isRight list bytes = eqb (get_or bytes 1 0) (checkOf (drop 2 bytes) (id_at list (counterOf (get_or bytes 2 0))))
+abbrev pub is_right : List ℕ → List ℕ → Bool
+is_right list bytes = eqb (get_or bytes 1 0) (check_of (drop 2 bytes) (id_at list (counter_of (get_or bytes 2 0))))
 
 abbrev pub judged : FrameType → CheckMode → DataIds → List ℕ → Bool
-judged PlainSync mode ids bytes = takesPlain mode
-judged SecuredSync mode ids bytes = takesSecured mode (isRight ids.sync bytes)
-judged PlainFup mode ids bytes = takesPlain mode
-judged SecuredFup mode ids bytes = takesSecured mode (isRight ids.fup bytes)
+judged PlainSync mode ids bytes = takes_plain mode
+judged SecuredSync mode ids bytes = takes_secured mode (is_right ids.sync bytes)
+judged PlainFup mode ids bytes = takes_plain mode
+judged SecuredFup mode ids bytes = takes_secured mode (is_right ids.fup bytes)
 judged Unknown mode ids bytes = false
 
 abbrev pub is_taken : CheckMode → DataIds → List ℕ → Bool

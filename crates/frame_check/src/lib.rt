@@ -1,7 +1,7 @@
 // The four check modes (paper 01, "Frames"; names as in documents 002 and 003). The check byte is
 // judged over the bytes as received, reserved bits included.
 ghost use Rattle.std.specs.Prelude.{◌≡◌, length};
-ghost use Rattle.frame_check.specs.Check.{is_taken, takesPlain, takesSecured, isRight};
+ghost use Rattle.frame_check.specs.Check.{is_taken, takes_plain, takes_secured, is_right};
 
 use frame::{DataIds, FrameType, counter_of, id_at};
 
@@ -37,7 +37,7 @@ impl CheckMode {
     }
 
     fn takes_plain(self) -> bool
-        ensures { result ≡ takesPlain self }
+        ensures { result ≡ takes_plain self }
     {
         match self {
             CheckMode::Validated => false,
@@ -49,7 +49,7 @@ impl CheckMode {
 
     fn takes_secured(self, bytes: &[u8], list: [u8; DataIds::COUNTERS]) -> bool
         requires { length bytes.now ≡ 8 }
-        ensures { result ≡ takesSecured self (isRight list bytes.now) }
+        ensures { result ≡ takes_secured self (is_right list bytes.now) }
     {
         match self {
             CheckMode::Validated => right(bytes, list),
@@ -62,7 +62,7 @@ impl CheckMode {
 
 fn right(bytes: &[u8], list: [u8; DataIds::COUNTERS]) -> bool
     requires { length bytes.now ≡ 8 }
-    ensures { result ≡ isRight list bytes.now }
+    ensures { result ≡ is_right list bytes.now }
 {
     let id = id_at(list, counter_of(bytes[2]));
     bytes[1] == crc8::check(&bytes[2..], id)

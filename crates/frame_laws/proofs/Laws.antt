@@ -15,8 +15,8 @@ use native.Mathlib.Omega.{arith}
 use lib.Dec.{eqb}
 use lib.ListN.{length, get_or, drop}
 use borrow.Author.Tests.{eq-eqb, ne_eqb, eqb-true, eqb-false, ltb-true}
-use Rattle.crc8.specs.Crc8.{checkOf}
-use Rattle.crc8.proofs.Values.{values_of as list_of, values-all}
+use Rattle.crc8.specs.Crc8.{check_of}
+use Rattle.crc8.proofs.Values.{values_of as list_of, values_all}
 use Rattle.frame.specs.declared.data_ids.DataIds.{DataIds}
 use Rattle.frame.specs.declared.types.FrameType.{FrameType}
 use Rattle.frame.specs.declared.types.FrameType.TheVariants.{PlainSync, SecuredSync, PlainFup, SecuredFup, Unknown}
@@ -28,37 +28,37 @@ use Rattle.frame_read.specs.declared.Read.{Read}
 use Rattle.frame_read.specs.declared.Read.TheVariants.{Values, LengthNot8}
 use Rattle.frame_check.specs.declared.CheckMode.{CheckMode}
 use Rattle.frame.specs.Types.{type_of}
-use Rattle.frame.specs.ByteTwo.{byteTwoOf}
+use Rattle.frame.specs.ByteTwo.{byte_two_of}
 use Rattle.frame.specs.Ids.{id_at}
-use Rattle.frame_read.specs.Read.{namedDomain, read_of, values_of, word_of, syncIn, fupIn}
-use Rattle.frame_write.specs.Write.{flags, rest_of, framedOf, bytes_of}
-use Rattle.frame_check.specs.Check.{is_taken, isRight, takesSecured}
-use Rattle.frame.specs.Values.{domainIn, protectionIn}
-use Rattle.frame_laws.specs.RoundTrip.{FrameFits, takesKind, AreBytes, zeroReserved, rightIfSecured}
+use Rattle.frame_read.specs.Read.{named_domain, read_of, values_of, word_of, sync_in, fup_in}
+use Rattle.frame_write.specs.Write.{flags, rest_of, framed_of, bytes_of}
+use Rattle.frame_check.specs.Check.{is_taken, is_right, takes_secured}
+use Rattle.frame.specs.Values.{domain_in, protection_in}
+use Rattle.frame_laws.specs.RoundTrip.{FrameFits, takes_kind, AreBytes, zero_reserved, right_if_secured}
 
 -- ---- read-back
 
-sgw-back : (sgw : Bool) (ovs : ℕ) → eqb (flags sgw ovs / 4 % 2) 1 ≡ sgw
-sgw-back true ovs = eq-eqb ((4 + ovs % 4) / 4 % 2) 1 (omega arith)
-sgw-back false ovs = ne_eqb (ovs % 4 / 4 % 2) 1 (omega arith)
+sgw_back : (sgw : Bool) (ovs : ℕ) → eqb (flags sgw ovs / 4 % 2) 1 ≡ sgw
+sgw_back true ovs = eq-eqb ((4 + ovs % 4) / 4 % 2) 1 (omega arith)
+sgw_back false ovs = ne_eqb (ovs % 4 / 4 % 2) 1 (omega arith)
 
-ovs-back : (sgw : Bool) (ovs : ℕ) → ovs < 4 → flags sgw ovs % 4 ≡ ovs
-ovs-back true ovs h = omega arith
-ovs-back false ovs h = omega arith
+ovs_back : (sgw : Bool) (ovs : ℕ) → ovs < 4 → flags sgw ovs % 4 ≡ ovs
+ovs_back true ovs h = omega arith
+ovs_back false ovs h = omega arith
 
-abbrev syncValues : (domain counter user0 seconds : ℕ) → Protection → Read
-syncValues d c u s p = Values (sync (record { domain = d; counter = c; user0 = u; seconds = s; protection = p }))
+abbrev sync_values : (domain counter user0 seconds : ℕ) → Protection → Read
+sync_values d c u s p = Values (sync (record { domain = d; counter = c; user0 = u; seconds = s; protection = p }))
 
-abbrev fupValues : (domain counter : ℕ) → Bool → (ovs nanoseconds : ℕ) → Protection → Read
-fupValues d c g o n p =
+abbrev fup_values : (domain counter : ℕ) → Bool → (ovs nanoseconds : ℕ) → Protection → Read
+fup_values d c g o n p =
     Values (fup (record { domain = d; counter = c; sgw = g; ovs = o; nanoseconds = n; protection = p }))
 
 module _ (domain counter word : ℕ) (hd : domain < 16) (hc : counter < 16) (hw : word < 2 ^ 32) where
-  domain-back : byteTwoOf domain counter / 16 ≡ domain
-  domain-back = omega arith
+  domain_back : byte_two_of domain counter / 16 ≡ domain
+  domain_back = omega arith
 
-  counter-back : byteTwoOf domain counter % 16 ≡ counter
-  counter-back = omega arith
+  counter_back : byte_two_of domain counter % 16 ≡ counter
+  counter_back = omega arith
 
   word_back :
       ((word / 16777216 % 256 * 256 + word / 65536 % 256) * 256 + word / 256 % 256) * 256 + word % 256 ≡ word
@@ -67,29 +67,29 @@ module _ (domain counter word : ℕ) (hd : domain < 16) (hc : counter < 16) (hw 
       let three : word / 16777216 % 256 ≡ word / 256 / 256 / 256 = omega arith in
       rw (three, two, div-add-mod' (word / 256 / 256) 256, div-add-mod' (word / 256) 256, div-add-mod' word 256)
 
-  sync-back :
+  sync_back :
       (user0 id : ℕ) (p : Protection) →
-      read_of (framedOf 0x10 0x20 p (byteTwoOf domain counter) user0 word id)
-      ≡ syncValues domain counter user0 word p
-  sync-back user0 id (Plain user) = λ i. syncValues (domain-back i) (counter-back i) user0 (word_back i) (Plain user)
-  sync-back user0 id Secured = λ i. syncValues (domain-back i) (counter-back i) user0 (word_back i) Secured
+      read_of (framed_of 0x10 0x20 p (byte_two_of domain counter) user0 word id)
+      ≡ sync_values domain counter user0 word p
+  sync_back user0 id (Plain user) = λ i. sync_values (domain_back i) (counter_back i) user0 (word_back i) (Plain user)
+  sync_back user0 id Secured = λ i. sync_values (domain_back i) (counter_back i) user0 (word_back i) Secured
 
-  fup-back :
+  fup_back :
       (sgw : Bool) (ovs id : ℕ) → ovs < 4 → (p : Protection) →
-      read_of (framedOf 0x18 0x28 p (byteTwoOf domain counter) (flags sgw ovs) word id)
-      ≡ fupValues domain counter sgw ovs word p
-  fup-back sgw ovs id h (Plain user) =
+      read_of (framed_of 0x18 0x28 p (byte_two_of domain counter) (flags sgw ovs) word id)
+      ≡ fup_values domain counter sgw ovs word p
+  fup_back sgw ovs id h (Plain user) =
       λ i.
-      fupValues (domain-back i) (counter-back i) (sgw-back sgw ovs i) (ovs-back sgw ovs h i) (word_back i) (Plain user)
-  fup-back sgw ovs id h Secured =
-      λ i. fupValues (domain-back i) (counter-back i) (sgw-back sgw ovs i) (ovs-back sgw ovs h i) (word_back i) Secured
+      fup_values (domain_back i) (counter_back i) (sgw_back sgw ovs i) (ovs_back sgw ovs h i) (word_back i) (Plain user)
+  fup_back sgw ovs id h Secured =
+      λ i. fup_values (domain_back i) (counter_back i) (sgw_back sgw ovs i) (ovs_back sgw ovs h i) (word_back i) Secured
 
 pub read_back : (ids : DataIds) (f : Frame) → FrameFits f → read_of (bytes_of ids f) ≡ Values f
 read_back ids (sync s) h =
-    sync-back s.domain s.counter s.seconds (omega arith) (omega arith) (omega arith)
+    sync_back s.domain s.counter s.seconds (omega arith) (omega arith) (omega arith)
     s.user0 (id_at ids.sync s.counter) s.protection
 read_back ids (fup f) h =
-    fup-back f.domain f.counter f.nanoseconds (omega arith) (omega arith) (omega arith)
+    fup_back f.domain f.counter f.nanoseconds (omega arith) (omega arith) (omega arith)
     f.sgw f.ovs (id_at ids.fup f.counter) (omega arith) f.protection
 
 -- ---- write-back
@@ -102,8 +102,8 @@ TypeIs PlainFup byte = byte ≡ 0x18
 TypeIs SecuredFup byte = byte ≡ 0x28
 TypeIs Unknown byte = Unit {0}
 
-type-is : (byte : ℕ) → TypeIs (type_of byte) byte
-type-is byte = go (eqb byte 0x10) refl (eqb byte 0x20) refl (eqb byte 0x18) refl (eqb byte 0x28) refl
+type_is : (byte : ℕ) → TypeIs (type_of byte) byte
+type_is byte = go (eqb byte 0x10) refl (eqb byte 0x20) refl (eqb byte 0x18) refl (eqb byte 0x28) refl
   where
     go :
         (a : Bool) → eqb byte 0x10 ≡ a → (b : Bool) → eqb byte 0x20 ≡ b →
@@ -127,41 +127,41 @@ module _ (ids : DataIds) (zero' one two three four five six seven : ℕ)
   abbrev eight : List ℕ
   eight = zero' ∷ one ∷ two ∷ three ∷ four ∷ five ∷ six ∷ seven ∷ []
 
-  rest-of : (t : ℕ) → t ≡ three → rest_of (byteTwoOf (two / 16) (two % 16)) t (word_of eight) ≡ drop 2 eight
-  rest-of t p₃ =
-      let p₂ : byteTwoOf (two / 16) (two % 16) ≡ two = omega arith in
+  rest_of_lem : (t : ℕ) → t ≡ three → rest_of (byte_two_of (two / 16) (two % 16)) t (word_of eight) ≡ drop 2 eight
+  rest_of_lem t p₃ =
+      let p₂ : byte_two_of (two / 16) (two % 16) ≡ two = omega arith in
       let p₄ : word_of eight / 16777216 % 256 ≡ four = omega arith in
       let p₅ : word_of eight / 65536 % 256 ≡ five = omega arith in
       let p₆ : word_of eight / 256 % 256 ≡ six = omega arith in
       let p₇ : word_of eight % 256 ≡ seven = omega arith in
       λ i. p₂ i ∷ p₃ i ∷ p₄ i ∷ p₅ i ∷ p₆ i ∷ p₇ i ∷ []
 
-  check-of :
-      (list : List ℕ) (t : ℕ) → t ≡ three → isRight list eight ≡ true →
-      checkOf (rest_of (byteTwoOf (two / 16) (two % 16)) t (word_of eight)) (id_at list (two % 16)) ≡ one
-  check-of list t e r =
-      ap (λ (rest : List ℕ). checkOf rest (id_at list (two % 16))) (rest-of t e) ∙ sym (eqb-true one _ r)
+  check_of_lem :
+      (list : List ℕ) (t : ℕ) → t ≡ three → is_right list eight ≡ true →
+      check_of (rest_of (byte_two_of (two / 16) (two % 16)) t (word_of eight)) (id_at list (two % 16)) ≡ one
+  check_of_lem list t e r =
+      ap (λ (rest : List ℕ). check_of rest (id_at list (two % 16))) (rest_of_lem t e) ∙ sym (eqb-true one _ r)
 
   back :
       (k : FrameType) → TypeIs k zero' → (f : Frame) → values_of k eight ≡ Values f →
-      zeroReserved k eight ≡ true → rightIfSecured k ids eight ≡ true → bytes_of ids f ≡ eight
+      zero_reserved k eight ≡ true → right_if_secured k ids eight ≡ true → bytes_of ids f ≡ eight
   back PlainSync t f e z r =
-      let q : sync (syncIn eight (Plain one)) ≡ f = cc in
-      let p = rest-of three refl in
+      let q : sync (sync_in eight (Plain one)) ≡ f = cc in
+      let p = rest_of_lem three refl in
       subst (λ (f : Frame). bytes_of ids f ≡ eight) q (λ i. sym t i ∷ one ∷ p i)
   back SecuredSync t f e z r =
-      let q : sync (syncIn eight Secured) ≡ f = cc in
-      let p = rest-of three refl in
-      let c = check-of ids.sync three refl r in
+      let q : sync (sync_in eight Secured) ≡ f = cc in
+      let p = rest_of_lem three refl in
+      let c = check_of_lem ids.sync three refl r in
       subst (λ (f : Frame). bytes_of ids f ≡ eight) q (λ i. sym t i ∷ c i ∷ p i)
   back PlainFup t f e z r =
-      let q : fup (fupIn eight (Plain one)) ≡ f = cc in
-      let p = rest-of _ (flags_of three (omega (arith, ltb-true))) in
+      let q : fup (fup_in eight (Plain one)) ≡ f = cc in
+      let p = rest_of_lem _ (flags_of three (omega (arith, ltb-true))) in
       subst (λ (f : Frame). bytes_of ids f ≡ eight) q (λ i. sym t i ∷ one ∷ p i)
   back SecuredFup t f e z r =
-      let q : fup (fupIn eight Secured) ≡ f = cc in
-      let p = rest-of _ (flags_of three (omega (arith, ltb-true))) in
-      let c = check-of ids.fup _ (flags_of three (omega (arith, ltb-true))) r in
+      let q : fup (fup_in eight Secured) ≡ f = cc in
+      let p = rest_of_lem _ (flags_of three (omega (arith, ltb-true))) in
+      let c = check_of_lem ids.fup _ (flags_of three (omega (arith, ltb-true))) r in
       subst (λ (f : Frame). bytes_of ids f ≡ eight) q (λ i. sym t i ∷ c i ∷ p i)
   back Unknown t f e z r = let no : ◌≡◌ {A = ℕ} 0 1 = cc in absurd (omega arith)
 
@@ -178,83 +178,83 @@ reads bytes f = go (eqb (length bytes) 8) refl
     go true w e = (eqb-true _ 8 w, e)
     go false w e = let no : ◌≡◌ {A = ℕ} 0 1 = cc in absurd (omega arith)
 
-pub byte-below : (bytes : List ℕ) (i : ℕ) → AreBytes bytes → get_or bytes i 0 < 256
-byte-below [] i h = omega arith
-byte-below (b ∷ rest) zero h = h.0
-byte-below (b ∷ rest) (suc i) h = byte-below rest i h.1
+pub byte_below : (bytes : List ℕ) (i : ℕ) → AreBytes bytes → get_or bytes i 0 < 256
+byte_below [] i h = omega arith
+byte_below (b ∷ rest) zero h = h.0
+byte_below (b ∷ rest) (suc i) h = byte_below rest i h.1
 
 abbrev WriteBack : DataIds → Frame → List ℕ → Type 0
 WriteBack ids f bytes =
     AreBytes bytes → read_of bytes ≡ Values f →
-    zeroReserved (type_of (get_or bytes 0 0)) bytes ≡ true →
-    rightIfSecured (type_of (get_or bytes 0 0)) ids bytes ≡ true →
+    zero_reserved (type_of (get_or bytes 0 0)) bytes ≡ true →
+    right_if_secured (type_of (get_or bytes 0 0)) ids bytes ≡ true →
     bytes_of ids f ≡ bytes
 
-pub write-back : (ids : DataIds) (f : Frame) (bytes : List ℕ) → WriteBack ids f bytes
-write-back ids f bytes are e =
+pub write_back : (ids : DataIds) (f : Frame) (bytes : List ℕ) → WriteBack ids f bytes
+write_back ids f bytes are e =
     let b : ℕ → ℕ = λ k. get_or bytes k 0 in
-    let small : (k : ℕ) → b k < 256 = λ k. byte-below bytes k are in
-    let all : list_of b 8 ≡ bytes = ap (list_of b) (sym (reads bytes f e).0) ∙ values-all bytes in
+    let small : (k : ℕ) → b k < 256 = λ k. byte_below bytes k are in
+    let all : list_of b 8 ≡ bytes = ap (list_of b) (sym (reads bytes f e).0) ∙ values_all bytes in
     subst (WriteBack ids f) all
     (λ small' e'.
     back ids (b 0) (b 1) (b 2) (b 3) (b 4) (b 5) (b 6) (b 7) (small 2) (small 4) (small 5) (small 6) (small 7)
-    (type_of (b 0)) (type-is (b 0)) f (reads (list_of b 8) f e').1)
+    (type_of (b 0)) (type_is (b 0)) f (reads (list_of b 8) f e').1)
     are e
 
 -- ---- good-back
 
 module _ (list : List ℕ) (domain counter three word : ℕ) where
   abbrev two : ℕ
-  two = byteTwoOf domain counter
+  two = byte_two_of domain counter
 
-  right-back :
+  right_back :
       (secured : ℕ) →
-      isRight list (framedOf 0 secured Secured two three word (id_at list counter)) ≡ true
-  right-back secured =
+      is_right list (framed_of 0 secured Secured two three word (id_at list counter)) ≡ true
+  right_back secured =
       let same : counter % 16 ≡ two % 16 % 16 = omega arith in
-      eq-eqb _ _ (ap (λ (k : ℕ). checkOf (rest_of two three word) (get_or list k 0)) same)
+      eq-eqb _ _ (ap (λ (k : ℕ). check_of (rest_of two three word) (get_or list k 0)) same)
 
-good-sync :
+good_sync :
     (mode : CheckMode) (ids : DataIds) (domain counter user0 seconds : ℕ) (p : Protection) →
     is_taken mode ids
-    (framedOf 0x10 0x20 p (byteTwoOf domain counter) user0 seconds (id_at ids.sync counter))
-    ≡ takesKind mode p
-good-sync mode ids d c u s (Plain user) = refl
-good-sync mode ids d c u s Secured = ap (takesSecured mode) (right-back ids.sync d c u s 0x20)
+    (framed_of 0x10 0x20 p (byte_two_of domain counter) user0 seconds (id_at ids.sync counter))
+    ≡ takes_kind mode p
+good_sync mode ids d c u s (Plain user) = refl
+good_sync mode ids d c u s Secured = ap (takes_secured mode) (right_back ids.sync d c u s 0x20)
 
-good-fup :
+good_fup :
     (mode : CheckMode) (ids : DataIds) (domain counter three nanoseconds : ℕ) (p : Protection) →
     is_taken mode ids
-    (framedOf 0x18 0x28 p (byteTwoOf domain counter) three nanoseconds (id_at ids.fup counter))
-    ≡ takesKind mode p
-good-fup mode ids d c t n (Plain user) = refl
-good-fup mode ids d c t n Secured = ap (takesSecured mode) (right-back ids.fup d c t n 0x28)
+    (framed_of 0x18 0x28 p (byte_two_of domain counter) three nanoseconds (id_at ids.fup counter))
+    ≡ takes_kind mode p
+good_fup mode ids d c t n (Plain user) = refl
+good_fup mode ids d c t n Secured = ap (takes_secured mode) (right_back ids.fup d c t n 0x28)
 
-pub good-back :
+pub good_back :
     (mode : CheckMode) (ids : DataIds) (f : Frame) →
-    is_taken mode ids (bytes_of ids f) ≡ takesKind mode (protectionIn f)
-good-back mode ids (sync s) = good-sync mode ids s.domain s.counter s.user0 s.seconds s.protection
-good-back mode ids (fup f) =
-    good-fup mode ids f.domain f.counter (flags f.sgw f.ovs) f.nanoseconds f.protection
+    is_taken mode ids (bytes_of ids f) ≡ takes_kind mode (protection_in f)
+good_back mode ids (sync s) = good_sync mode ids s.domain s.counter s.user0 s.seconds s.protection
+good_back mode ids (fup f) =
+    good_fup mode ids f.domain f.counter (flags f.sgw f.ovs) f.nanoseconds f.protection
 
 -- ---- named_back
 
-byte-two :
+byte_two :
     (plain secured : ℕ) (p : Protection) (two three word id : ℕ) →
-    get_or (framedOf plain secured p two three word id) 2 0 ≡ two
-byte-two plain secured (Plain user) two three word id = refl
-byte-two plain secured Secured two three word id = refl
+    get_or (framed_of plain secured p two three word id) 2 0 ≡ two
+byte_two plain secured (Plain user) two three word id = refl
+byte_two plain secured Secured two three word id = refl
 
-pub named_back : (ids : DataIds) (f : Frame) → domainIn f < 16 → namedDomain (bytes_of ids f) ≡ domainIn f
+pub named_back : (ids : DataIds) (f : Frame) → domain_in f < 16 → named_domain (bytes_of ids f) ≡ domain_in f
 named_back ids (sync s) h =
     omega (
       arith,
-      byte-two 0x10 0x20 s.protection (byteTwoOf s.domain s.counter) s.user0 s.seconds
+      byte_two 0x10 0x20 s.protection (byte_two_of s.domain s.counter) s.user0 s.seconds
           (id_at ids.sync s.counter),
     )
 named_back ids (fup f) h =
     omega (
       arith,
-      byte-two 0x18 0x28 f.protection (byteTwoOf f.domain f.counter) (flags f.sgw f.ovs)
+      byte_two 0x18 0x28 f.protection (byte_two_of f.domain f.counter) (flags f.sgw f.ovs)
           f.nanoseconds (id_at ids.fup f.counter),
     )

@@ -19,7 +19,7 @@ use Rattle.frame.specs.declared.values.Sync.{Sync}
 use Rattle.frame.specs.declared.values.Fup.{Fup}
 use Rattle.frame.specs.declared.values.Frame.{Frame}
 use Rattle.frame.specs.declared.values.Frame.TheVariants.{Sync as sync, Fup as fup}
-use Rattle.frame_check.specs.Check.{isRight, takesPlain, takesSecured}
+use Rattle.frame_check.specs.Check.{is_right, takes_plain, takes_secured}
 
 -- ---- values that fit their bits
 pub record SyncFits (s : Sync) : Type 0 where
@@ -38,9 +38,9 @@ FrameFits (sync s) = SyncFits s
 FrameFits (fup f) = FupFits f
 
 -- ---- the mode takes frames of this kind, and "secured ones with a right check byte"
-abbrev pub takesKind : CheckMode → Protection → Bool
-takesKind mode (Plain user) = takesPlain mode
-takesKind mode Secured = takesSecured mode true
+abbrev pub takes_kind : CheckMode → Protection → Bool
+takes_kind mode (Plain user) = takes_plain mode
+takes_kind mode Secured = takes_secured mode true
 
 -- ---- bytes
 abbrev pub AreBytes : List ℕ → Type 0
@@ -48,17 +48,17 @@ AreBytes [] = Unit {0}
 AreBytes (byte ∷ rest) = (byte < 256) × AreBytes rest
 
 -- ---- "zero reserved bits"
-abbrev pub zeroReserved : FrameType → List ℕ → Bool
-zeroReserved PlainSync bytes = true
-zeroReserved SecuredSync bytes = true
-zeroReserved PlainFup bytes = ltb (get_or bytes 3 0) 8
-zeroReserved SecuredFup bytes = ltb (get_or bytes 3 0) 8
-zeroReserved Unknown bytes = true
+abbrev pub zero_reserved : FrameType → List ℕ → Bool
+zero_reserved PlainSync bytes = true
+zero_reserved SecuredSync bytes = true
+zero_reserved PlainFup bytes = ltb (get_or bytes 3 0) 8
+zero_reserved SecuredFup bytes = ltb (get_or bytes 3 0) 8
+zero_reserved Unknown bytes = true
 
 -- ---- "a right check byte, if it has one"
-abbrev pub rightIfSecured : FrameType → DataIds → List ℕ → Bool
-rightIfSecured PlainSync ids bytes = true
-rightIfSecured SecuredSync ids bytes = isRight ids.sync bytes
-rightIfSecured PlainFup ids bytes = true
-rightIfSecured SecuredFup ids bytes = isRight ids.fup bytes
-rightIfSecured Unknown ids bytes = true
+abbrev pub right_if_secured : FrameType → DataIds → List ℕ → Bool
+right_if_secured PlainSync ids bytes = true
+right_if_secured SecuredSync ids bytes = is_right ids.sync bytes
+right_if_secured PlainFup ids bytes = true
+right_if_secured SecuredFup ids bytes = is_right ids.fup bytes
+right_if_secured Unknown ids bytes = true

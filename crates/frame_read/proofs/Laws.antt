@@ -16,22 +16,22 @@ use Rattle.frame.specs.declared.types.FrameType.TheVariants.{
   Unknown,
 }
 use Rattle.frame.specs.Types.{type_of}
-use Rattle.frame.specs.Values.{domainIn}
+use Rattle.frame.specs.Values.{domain_in}
 use Rattle.frame_read.specs.declared.Read.{Read}
 use Rattle.frame_read.specs.declared.Read.TheVariants.{Values, LengthNot8, NoSuchType}
-use Rattle.frame_read.specs.Read.{namedDomain, values_of, read_of}
+use Rattle.frame_read.specs.Read.{named_domain, values_of, read_of}
 
 abbrev pub Names : List ℕ → Read → Type 0
 Names bytes LengthNot8 = Unit {0}
 Names bytes NoSuchType = Unit {0}
-Names bytes (Values values) = domainIn values ≡ namedDomain bytes
+Names bytes (Values values) = domain_in values ≡ named_domain bytes
 
-values-name : (type : FrameType) (bytes : List ℕ) → Names bytes (values_of type bytes)
-values-name PlainSync bytes = refl
-values-name SecuredSync bytes = refl
-values-name PlainFup bytes = refl
-values-name SecuredFup bytes = refl
-values-name Unknown bytes = tt
+values_name : (type : FrameType) (bytes : List ℕ) → Names bytes (values_of type bytes)
+values_name PlainSync bytes = refl
+values_name SecuredSync bytes = refl
+values_name PlainFup bytes = refl
+values_name SecuredFup bytes = refl
+values_name Unknown bytes = tt
 
 pub read_names : (bytes : List ℕ) → Names bytes (read_of bytes)
-read_names bytes = either (Names bytes) (eqb (length bytes) 8) (values-name (type_of (get_or bytes 0 0)) bytes) tt
+read_names bytes = either (Names bytes) (eqb (length bytes) 8) (values_name (type_of (get_or bytes 0 0)) bytes) tt

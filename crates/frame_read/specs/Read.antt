@@ -16,36 +16,36 @@ use Rattle.frame.specs.declared.values.Fup.{Fup}
 use Rattle.frame_read.specs.declared.Read.{Read}
 use Rattle.frame_read.specs.declared.Read.TheVariants.{Values, LengthNot8, NoSuchType}
 use Rattle.frame.specs.Types.{type_of}
-use Rattle.frame.specs.ByteTwo.{domainOf, counterOf}
+use Rattle.frame.specs.ByteTwo.{domain_of, counter_of}
 
 abbrev byte : List ℕ → ℕ → ℕ
 byte bytes i = get_or bytes i 0
 
 -- ---- "domain in bits 7-4" of byte 2: the one place where a frame's domain is read
-abbrev pub namedDomain : List ℕ → ℕ
-namedDomain bytes = domainOf (byte bytes 2)
+abbrev pub named_domain : List ℕ → ℕ
+named_domain bytes = domain_of (byte bytes 2)
 
 -- ---- "byte order big-endian": bytes 4 to 7
 abbrev pub word_of : List ℕ → ℕ
 word_of bytes = ((byte bytes 4 * 256 + byte bytes 5) * 256 + byte bytes 6) * 256 + byte bytes 7
 
 -- ---- SYNC: byte 3 "user byte 0", bytes 4-7 "seconds"
-abbrev pub syncIn : List ℕ → Protection → Sync
-syncIn bytes p =
+abbrev pub sync_in : List ℕ → Protection → Sync
+sync_in bytes p =
     record {
-      domain = namedDomain bytes;
-      counter = counterOf (byte bytes 2);
+      domain = named_domain bytes;
+      counter = counter_of (byte bytes 2);
       user0 = byte bytes 3;
       seconds = word_of bytes;
       protection = p;
     }
 
 -- ---- FUP: byte 3 "bits 7-3 reserved, bit 2 SGW, bits 1-0 OVS", bytes 4-7 "nanoseconds"
-abbrev pub fupIn : List ℕ → Protection → Fup
-fupIn bytes p =
+abbrev pub fup_in : List ℕ → Protection → Fup
+fup_in bytes p =
     record {
-      domain = namedDomain bytes;
-      counter = counterOf (byte bytes 2);
+      domain = named_domain bytes;
+      counter = counter_of (byte bytes 2);
       sgw = eqb (byte bytes 3 / 4 % 2) 1;
       ovs = byte bytes 3 % 4;
       nanoseconds = word_of bytes;
@@ -54,10 +54,10 @@ fupIn bytes p =
 
 -- ---- byte 1 "user byte 1 / check byte", "user byte 2 / check byte"
 abbrev pub values_of : FrameType → List ℕ → Read
-values_of PlainSync bytes = Values (sync (syncIn bytes (Plain (byte bytes 1))))
-values_of SecuredSync bytes = Values (sync (syncIn bytes Secured))
-values_of PlainFup bytes = Values (fup (fupIn bytes (Plain (byte bytes 1))))
-values_of SecuredFup bytes = Values (fup (fupIn bytes Secured))
+values_of PlainSync bytes = Values (sync (sync_in bytes (Plain (byte bytes 1))))
+values_of SecuredSync bytes = Values (sync (sync_in bytes Secured))
+values_of PlainFup bytes = Values (fup (fup_in bytes (Plain (byte bytes 1))))
+values_of SecuredFup bytes = Values (fup (fup_in bytes Secured))
 values_of Unknown bytes = NoSuchType
 
 -- ---- "frame length not 8", "byte 0 none of the four types"

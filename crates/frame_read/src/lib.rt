@@ -1,7 +1,7 @@
 // Bytes to values (paper 01, "Frames"). Reserved bits are ignored, and the check byte is not looked at.
 // Bytes of every length are taken; what cannot be read is answered.
 ghost use Rattle.std.specs.Prelude.{◌≡◌, ◌<◌, length};
-ghost use Rattle.frame_read.specs.Read.{read_of, namedDomain, syncIn, fupIn, word_of};
+ghost use Rattle.frame_read.specs.Read.{read_of, named_domain, sync_in, fup_in, word_of};
 
 use frame::{Frame, FrameType, Fup, Protection, Sync, counter_of, domain_of};
 
@@ -32,7 +32,7 @@ pub fn read_frame(bytes: &[u8]) -> Read
 
 // The domain that the bytes name: 0 where there is no byte 2.
 pub fn named_domain(bytes: &[u8]) -> u8
-    ensures { result ≡ namedDomain bytes.now }
+    ensures { result ≡ named_domain bytes.now }
 {
     if bytes.len() < 3 {
         0
@@ -43,7 +43,7 @@ pub fn named_domain(bytes: &[u8]) -> u8
 
 fn sync(bytes: &[u8], protection: Protection) -> Sync
     requires { length bytes.now ≡ 8 }
-    ensures { result ≡ syncIn bytes.now protection }
+    ensures { result ≡ sync_in bytes.now protection }
 {
     Sync {
         domain: named_domain(bytes),
@@ -56,7 +56,7 @@ fn sync(bytes: &[u8], protection: Protection) -> Sync
 
 fn fup(bytes: &[u8], protection: Protection) -> Fup
     requires { length bytes.now ≡ 8 }
-    ensures { result ≡ fupIn bytes.now protection }
+    ensures { result ≡ fup_in bytes.now protection }
 {
     Fup {
         domain: named_domain(bytes),

@@ -1,7 +1,7 @@
 -- Paper 01, "Frames": the bytes of a frame's values. Assumes nothing.
 use Rattle.std.specs.Prelude.{ℕ, ◌+◌, ◌/◌, ◌%◌, ◌≡◌, Bool, cond, List, [], ◌∷◌, ◌++◌, leb, length, take, drop}
-use Rattle.crc8.specs.Crc8.{checkOf}
-use Rattle.frame.specs.ByteTwo.{byteTwoOf}
+use Rattle.crc8.specs.Crc8.{check_of}
+use Rattle.frame.specs.ByteTwo.{byte_two_of}
 use Rattle.frame.specs.Ids.{id_at}
 use Rattle.frame.specs.declared.data_ids.DataIds.{DataIds}
 use Rattle.frame.specs.declared.values.Protection.{Protection}
@@ -22,22 +22,22 @@ rest_of two three word =
 
 -- ---- bytes 0 and 1: "user byte 1 / check byte", "user byte 2 / check byte"; the check byte is
 -- "over bytes 2 to 7 and then the DataID"
-abbrev pub framedOf : (plain secured : ℕ) → Protection → (two three word id : ℕ) → List ℕ
-framedOf plain secured (Plain user) two three word id = plain ∷ user ∷ rest_of two three word
-framedOf plain secured Secured two three word id =
-    secured ∷ checkOf (rest_of two three word) id ∷ rest_of two three word
+abbrev pub framed_of : (plain secured : ℕ) → Protection → (two three word id : ℕ) → List ℕ
+framed_of plain secured (Plain user) two three word id = plain ∷ user ∷ rest_of two three word
+framed_of plain secured Secured two three word id =
+    secured ∷ check_of (rest_of two three word) id ∷ rest_of two three word
 
 -- ---- the table
 abbrev pub bytes_of : DataIds → Frame → List ℕ
 bytes_of ids (sync s) =
-    framedOf 0x10 0x20 s.protection
-    (byteTwoOf s.domain s.counter)
+    framed_of 0x10 0x20 s.protection
+    (byte_two_of s.domain s.counter)
     s.user0
     s.seconds
     (id_at ids.sync s.counter)
 bytes_of ids (fup f) =
-    framedOf 0x18 0x28 f.protection
-    (byteTwoOf f.domain f.counter)
+    framed_of 0x18 0x28 f.protection
+    (byte_two_of f.domain f.counter)
     (flags f.sgw f.ovs)
     f.nanoseconds
     (id_at ids.fup f.counter)
@@ -47,10 +47,10 @@ bytes_of ids (fup f) =
 abbrev pub is_room : ℕ → List ℕ → Bool
 is_room at out = leb (at + 8) (length out)
 
-abbrev pub writtenIn : List ℕ → ℕ → List ℕ → List ℕ
-writtenIn bytes at out = take at out ++ bytes ++ drop (at + 8) out
+abbrev pub written_in : List ℕ → ℕ → List ℕ → List ℕ
+written_in bytes at out = take at out ++ bytes ++ drop (at + 8) out
 
 pub record WrittenAt (frame : Frame) (ids : DataIds) (at : ℕ) (before : List ℕ) (r : Written)
     (after : List ℕ) : Type 0 where
   pub answer : r ≡ cond (is_room at before) Done NoRoom
-  pub bytes : after ≡ cond (is_room at before) (writtenIn (bytes_of ids frame) at before) before
+  pub bytes : after ≡ cond (is_room at before) (written_in (bytes_of ids frame) at before) before

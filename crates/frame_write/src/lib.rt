@@ -3,7 +3,7 @@
 // What cannot be written is answered, and then no lent byte has changed.
 ghost use Rattle.std.specs.Prelude.{◌+◌, ◌≤◌, ◌≡◌, length};
 ghost use Rattle.std.proofs.Math.Seq.{paste};
-ghost use Rattle.frame_write.specs.Write.{flags, framedOf, bytes_of, WrittenAt};
+ghost use Rattle.frame_write.specs.Write.{flags, framed_of, bytes_of, WrittenAt};
 
 use frame::{DataIds, Frame, Protection, byte_two, id_at};
 
@@ -73,7 +73,7 @@ fn framed(
     word: u32,
     id: u8,
 ) -> [u8; 8]
-    ensures { result ≡ framedOf plain secured protection two three word id }
+    ensures { result ≡ framed_of plain secured protection two three word id }
 {
     let four = (word / 16777216 % 256) as u8;
     let five = (word / 65536 % 256) as u8;

@@ -10,27 +10,27 @@ use borrow.Author.Tests.{eqb-true}
 use Rattle.promise.proofs.Tests.{both}
 use Rattle.settings.specs.Node.{places}
 use Rattle.settings.specs.declared.domain_settings.DomainSettings.{DomainSettings}
-use Rattle.settings.specs.Domain.{absentHeld}
+use Rattle.settings.specs.Domain.{absent_held}
 use Rattle.settings.specs.declared.node_settings.NodeSettings.{NodeSettings}
 use Rattle.settings.specs.declared.node_settings.Verdict.{Verdict}
 use Rattle.settings.specs.declared.node_settings.Verdict.TheVariants.{Good}
-use Rattle.settings.specs.Node.{judgedOf}
+use Rattle.settings.specs.Node.{judged_of}
 use Rattle.domain.specs.Fresh.{fresh_of}
-use Rattle.domain.specs.Records.{recordAt}
-use Rattle.node.specs.New.{recordsOf, newAs, newOf}
+use Rattle.domain.specs.Records.{record_at}
+use Rattle.node.specs.New.{records_of, new_as, new_of}
 use Rattle.node_laws.specs.Reachable.{IsSettings}
 
 fresh_at :
     (number : ℕ) (l : List DomainSettings) (at i : ℕ) → at < length l → number + at ≡ i →
-    recordAt (recordsOf number l) at ≡ fresh_of i (get_or l at absentHeld)
+    record_at (records_of number l) at ≡ fresh_of i (get_or l at absent_held)
 fresh_at number [] at i h e = absurd (omega arith)
 fresh_at number (x ∷ rest) zero i h e = ap (λ (n : ℕ). fresh_of n x) (omega arith)
 fresh_at number (x ∷ rest) (suc at) i h e = fresh_at (number + 1) rest at i (omega arith) (omega arith)
 
-pub fresh-record :
-    (s : NodeSettings) (i : ℕ) → IsSettings s → judgedOf s ≡ Good → i < places →
-    recordAt (newOf s).node.domains i ≡ fresh_of i (get_or s.domains i absentHeld)
-fresh-record s i is good h =
+pub fresh_record :
+    (s : NodeSettings) (i : ℕ) → IsSettings s → judged_of s ≡ Good → i < places →
+    record_at (new_of s).node.domains i ≡ fresh_of i (get_or s.domains i absent_held)
+fresh_record s i is good h =
     let sixteen : length s.domains ≡ places = eqb-true _ _ (both _ _ is).0 in
-    ap (λ (v : Verdict). recordAt (newAs v s).node.domains i) good
+    ap (λ (v : Verdict). record_at (new_as v s).node.domains i) good
     ∙ fresh_at 0 s.domains i i (omega arith) (omega arith)

@@ -5,34 +5,34 @@ use mathlib.Core.Path.{◌≡◌, sym, ◌∙◌, subst}
 use mathlib.Core.Bool.{true, true≢false}
 use mathlib.Core.List.{List, ◌∷◌}
 use native.Mathlib.Omega.{arith}
-use Rattle.history.specs.History.{Link, masterSettings, Sent, isFup}
+use Rattle.history.specs.History.{Link, master_settings, Sent, is_fup}
 use Rattle.history.specs.Demand.{Confirms, EachFupConfirms}
-use Rattle.history.proofs.Row.{Newest, Row, then-sync, then-fup}
-use Rattle.history.proofs.Rows.{row_before, sync-bytes, fup-bytes}
+use Rattle.history.proofs.Row.{Newest, Row, then_sync, then_fup}
+use Rattle.history.proofs.Rows.{row_before, sync_bytes, fup_bytes}
 use Rattle.history.proofs.Standing.{standing}
 
 -- the newest of a row
-confirms-here :
-    (k : Link) (s : Newest) (f : Sent) (older : List Sent) → Row (masterSettings k) k.domain s (f ∷ older) →
-    isFup f ≡ true → Confirms k f older
-confirms-here k s f older (then-sync s' l' r c x a sent) is =
-    absurd (true≢false (sym is ∙ (sync-bytes (masterSettings k) k.domain c f sent).is-not))
-confirms-here k s f older (then-fup c y l' rest r head sent f' fs) is =
-    let its = sync-bytes (masterSettings k) k.domain c y sent in
+confirms_here :
+    (k : Link) (s : Newest) (f : Sent) (older : List Sent) → Row (master_settings k) k.domain s (f ∷ older) →
+    is_fup f ≡ true → Confirms k f older
+confirms_here k s f older (then_sync s' l' r c x a sent) is =
+    absurd (true≢false (sym is ∙ (sync_bytes (master_settings k) k.domain c f sent).is_not))
+confirms_here k s f older (then_fup c y l' rest r head sent f' fs) is =
+    let its = sync_bytes (master_settings k) k.domain c y sent in
     record {
       sync = y;
       rest = rest;
       next = head;
-      is-sync = its.is;
-      counter = omega (arith, (fup-bytes (masterSettings k) k.domain c y f fs).counter-in, its.counter-in);
-      not-before = fs.later;
-      in-time = omega (arith, fs.soon);
+      is_a_sync = its.is;
+      counter = omega (arith, (fup_bytes (master_settings k) k.domain c y f fs).counter_in_lem, its.counter_in_lem);
+      not_before = fs.later;
+      in_time = omega (arith, fs.soon);
     }
 
-pub each-fup-confirms : EachFupConfirms
-each-fup-confirms k linked h calls newer older f split is =
-    let m = masterSettings k in
+pub each_fup_confirms : EachFupConfirms
+each_fup_confirms k linked h calls newer older f split is =
+    let m = master_settings k in
     let r = standing k linked h calls in
     let here =
     row_before m k.domain newer (f ∷ older) r.latest (subst (Row m k.domain r.latest) split r.row) in
-    confirms-here k here.latest f older here.row is
+    confirms_here k here.latest f older here.row is

@@ -2,21 +2,21 @@
 --   demand-three   the statements of `Demand` hold
 -- Assumes nothing.
 use Rattle.history.specs.Demand.{DemandThree}
-use Rattle.history.proofs.HeardAll.{each-frame-heard}
-use Rattle.history.proofs.Confirms.{each-fup-confirms}
-use Rattle.history.proofs.Held.{each-time-held}
-use Rattle.history.proofs.One.{each-sync-one, each-time-near}
-use Rattle.history.proofs.Taken.{each-pair-taken}
-use Rattle.history.proofs.Spaced.{each-spaced-taken}
+use Rattle.history.proofs.HeardAll.{each_frame_heard}
+use Rattle.history.proofs.Confirms.{each_fup_confirms}
+use Rattle.history.proofs.Held.{each_time_held}
+use Rattle.history.proofs.One.{each_sync_one, each_time_near}
+use Rattle.history.proofs.Taken.{each_pair_taken}
+use Rattle.history.proofs.Spaced.{each_spaced_taken}
 
-pub demand-three : DemandThree
-demand-three =
+pub demand_three : DemandThree
+demand_three =
     record {
-      heard = each-frame-heard;
-      confirms = each-fup-confirms;
-      held = each-time-held;
-      one = each-sync-one;
-      near = each-time-near;
-      taken = each-pair-taken;
-      spaced = each-spaced-taken;
+      heard = each_frame_heard;
+      confirms = each_fup_confirms;
+      held = each_time_held;
+      one = each_sync_one;
+      near = each_time_near;
+      taken = each_pair_taken;
+      spaced = each_spaced_taken;
     }

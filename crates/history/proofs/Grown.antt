@@ -10,20 +10,20 @@ use lib.Dec.{eqb}
 use Rattle.promise.proofs.Tests.{either}
 use Rattle.clock.specs.declared.reading.VirtualLocalTime.{VirtualLocalTime}
 use Rattle.clock.specs.declared.time.GlobalTime.{GlobalTime}
-use Rattle.node.specs.Frame.{addressedBy}
-use Rattle.node_call.specs.Calls.{reading_of, answerTo, givenBy}
+use Rattle.node.specs.Frame.{addressed_by}
+use Rattle.node_call.specs.Calls.{reading_of, answer_to, given_by}
 use Rattle.history.specs.History.{
   Link,
   Event,
-  atMaster,
-  atSlave,
+  at_master,
+  at_slave,
   History,
-  masterAfter,
-  masterRecord,
+  master_after,
+  master_record,
   Sent,
-  timeIn,
+  time_in,
   noted,
-  sentIn,
+  sent_in,
   In,
 }
 
@@ -34,20 +34,20 @@ pub record Grown (before after : List Sent) : Type 0 where
 one_more : (z : Sent) (l l' : List Sent) → Grown (z ∷ l) l' → Grown l l'
 one_more z l l' g = record { more = g.more ++ (z ∷ []); is = g.is ∙ sym (append_assoc g.more (z ∷ []) l) }
 
-pub noted-grows :
+pub noted_grows :
     (i : ℕ) (t : VirtualLocalTime) (g : GlobalTime) (frames : List (List ℕ)) (l : List Sent) →
     Grown l (noted i t g frames l)
-noted-grows i t g [] l = record { more = []; is = refl }
-noted-grows i t g (bytes ∷ rest) l =
-    either (λ (l' : List Sent). Grown l (noted i t g rest l')) (eqb (addressedBy bytes) i)
-    (one_more (record { bytes = bytes; at = t; time = g }) l _ (noted-grows i t g rest _)) (noted-grows i t g rest l)
+noted_grows i t g [] l = record { more = []; is = refl }
+noted_grows i t g (bytes ∷ rest) l =
+    either (λ (l' : List Sent). Grown l (noted i t g rest l')) (eqb (addressed_by bytes) i)
+    (one_more (record { bytes = bytes; at = t; time = g }) l _ (noted_grows i t g rest _)) (noted_grows i t g rest l)
 
-pub sent-grows : (k : Link) (x : Event) (h : History) → Grown (sentIn k h) (sentIn k (x ∷ h))
-sent-grows k (atMaster c) h =
-    noted-grows k.domain (reading_of c) (timeIn (masterRecord k h).base (reading_of c))
-    (givenBy (answerTo (masterAfter k h) c)) (sentIn k h)
-sent-grows k (atSlave c) h = record { more = []; is = refl }
+pub sent_grows : (k : Link) (x : Event) (h : History) → Grown (sent_in k h) (sent_in k (x ∷ h))
+sent_grows k (at_master c) h =
+    noted_grows k.domain (reading_of c) (time_in (master_record k h).base (reading_of c))
+    (given_by (answer_to (master_after k h) c)) (sent_in k h)
+sent_grows k (at_slave c) h = record { more = []; is = refl }
 
-pub in-more : {A : Type 0} (z : A) (more l : List A) → In z l → In z (more ++ l)
-in-more z [] l p = p
-in-more z (y ∷ more) l p = inr (in-more z more l p)
+pub in_more : {A : Type 0} (z : A) (more l : List A) → In z l → In z (more ++ l)
+in_more z [] l p = p
+in_more z (y ∷ more) l p = inr (in_more z more l p)

@@ -12,22 +12,22 @@ use native.Mathlib.Omega.{arith}
 use lib.ListN.{get_or}
 use Rattle.clock.specs.declared.base.TimeBase.{TimeBase}
 use Rattle.clock.specs.Reading.{span_of}
-use Rattle.clock.specs.Time.{nanosecondsOf}
-use Rattle.clock.proofs.Laws.{advance-exact}
+use Rattle.clock.specs.Time.{nanoseconds_of}
+use Rattle.clock.proofs.Laws.{advance_exact}
 use Rattle.settings.specs.declared.domain_settings.DomainSettings.{DomainSettings}
 use Rattle.node_call.specs.Calls.{frame}
 use Rattle.history.specs.History.{
   Link,
-  masterSettings,
-  onMaster,
-  onSlave,
+  master_settings,
+  on_master,
+  on_slave,
   Event,
-  atSlave,
+  at_slave,
   History,
   Sent,
-  sentIn,
+  sent_in,
   In,
-  isSync,
+  is_sync,
 }
 use Rattle.history.specs.Demand.{
   Linked,
@@ -40,61 +40,61 @@ use Rattle.history.specs.Demand.{
 }
 use Rattle.history.proofs.Row.{SyncSent, Row}
 use Rattle.history.proofs.Rows.{
-  ofSync,
+  of_sync,
   RowOf,
   Known,
   Pair,
   PairIn,
-  each-known,
+  each_known,
   apart,
-  sync-bytes,
-  fup-bytes,
-  fup-here,
+  sync_bytes,
+  fup_bytes,
+  fup_here,
   row_before,
 }
-use Rattle.history.proofs.Standing.{standing, sent-past}
+use Rattle.history.proofs.Standing.{standing, sent_past}
 
 -- ---- the part of a history up to a call
 
-calls-before : (after : History) (x : Event) (h : History) → AreCalls (after ++ (x ∷ h)) → AreCalls h
-calls-before [] x h calls = calls.0
-calls-before (y ∷ after) x h calls = calls-before after x h calls.0
+calls_before : (after : History) (x : Event) (h : History) → AreCalls (after ++ (x ∷ h)) → AreCalls h
+calls_before [] x h calls = calls.0
+calls_before (y ∷ after) x h calls = calls_before after x h calls.0
 
-fall-before :
+fall_before :
     (k : Link) (after : History) (x : Event) (h : History) → NeverFall k (after ++ (x ∷ h)) → NeverFall k (x ∷ h)
-fall-before k [] x h fall = fall
-fall-before k (y ∷ after) x h fall = fall-before k after x h fall.0
+fall_before k [] x h fall = fall
+fall_before k (y ∷ after) x h fall = fall_before k after x h fall.0
 
 -- ---- a frame of a row that byte 0 calls a SYNC is one
-sync-known :
-    (m : DomainSettings) (i : ℕ) (l : List Sent) → RowOf m i l → (z : Sent) → In z l → isSync z ≡ true → Known m i z
-sync-known m i l r z there is =
+sync_known :
+    (m : DomainSettings) (i : ℕ) (l : List Sent) → RowOf m i l → (z : Sent) → In z l → is_sync z ≡ true → Known m i z
+sync_known m i l r z there is =
     ⊎_elim (λ known. known)
     (λ (its : PairIn m i l z).
-    absurd (true≢false (sym is ∙ (fup-bytes m i its.pair.counter its.y z its.pair.fup).is-not)))
-    (each-known m i r.latest l r.row z there)
+    absurd (true≢false (sym is ∙ (fup_bytes m i its.pair.counter its.y z its.pair.fup).is_not)))
+    (each_known m i r.latest l r.row z there)
 
 module _ (k : Link) (h : History) (fall : NeverFall k h) (b : TimeBase) (one : TimeOfOne k h b) where
-  falls : NeverFall k (atSlave (frame b.at one.sync.bytes) ∷ one.before)
-  falls = fall-before k one.after _ one.before (subst (NeverFall k) one.copy fall)
+  falls : NeverFall k (at_slave (frame b.at one.sync.bytes) ∷ one.before)
+  falls = fall_before k one.after _ one.before (subst (NeverFall k) one.copy fall)
 
   -- what was sent before the copy came was not sent after it
-  pub not_after : (z : Sent) → In z (sentIn k one.before) → onMaster k z.at ≤ onSlave k b.at
-  not_after z there = omega (arith, falls.1, sent-past k one.before falls.0 z there)
+  pub not_after : (z : Sent) → In z (sent_in k one.before) → on_master k z.at ≤ on_slave k b.at
+  not_after z there = omega (arith, falls.1, sent_past k one.before falls.0 z there)
 
 module _ (k : Link) (linked : Linked k) (h : History) (calls : AreCalls h) (b : TimeBase) (one : TimeOfOne k h b) where
-  rows : RowOf (masterSettings k) k.domain (sentIn k one.before)
+  rows : RowOf (master_settings k) k.domain (sent_in k one.before)
   rows =
-      standing k linked one.before (calls-before one.after _ one.before (subst AreCalls one.copy calls))
+      standing k linked one.before (calls_before one.after _ one.before (subst AreCalls one.copy calls))
 
-  pair : Pair (masterSettings k) k.domain one.fup one.sync
+  pair : Pair (master_settings k) k.domain one.fup one.sync
   pair =
-      let m = masterSettings k in
+      let m = master_settings k in
       let r = standing k linked h calls in
       let here =
       row_before m k.domain one.newer (one.fup ∷ one.sync ∷ one.older) r.latest
       (subst (Row m k.domain r.latest) one.sent r.row) in
-      fup-here m k.domain here.latest one.fup one.sync one.older here.row one.is-fup
+      fup_here m k.domain here.latest one.fup one.sync one.older here.row one.is_a_fup
 
   near : NeverFall k h → Near k b one.sync
   near fall =
@@ -102,33 +102,33 @@ module _ (k : Link) (linked : Linked k) (h : History) (calls : AreCalls h) (b : 
       let span = span_of s.at one.fup.at in
       let fits : s.time.0 + (s.time.1 + span) / 1000000000 < 2 ^ 64 =
       omega (arith, pair.sync.seconds, pair.fup.ovs) in
-      let whole : nanosecondsOf b.time ≡ nanosecondsOf s.time + span =
-      ap nanosecondsOf one.time ∙ advance-exact s.time span fits in
+      let whole : nanoseconds_of b.time ≡ nanoseconds_of s.time + span =
+      ap nanoseconds_of one.time ∙ advance_exact s.time span fits in
       record {
         behind = omega (arith, whole, one.copied.soon);
         ahead = omega (arith, whole, pair.fup.soon, pair.fup.later, not_after k h fall b one s one.copied.sent);
       }
 
-pub each-time-near : EachTimeNear
-each-time-near k linked h calls fall b one = near k linked h calls b one fall
+pub each_time_near : EachTimeNear
+each_time_near k linked h calls fall b one = near k linked h calls b one fall
 
-pub each-sync-one : EachSyncOne
-each-sync-one k linked exceed h calls fall b one other copy =
-    let m = masterSettings k in
+pub each_sync_one : EachSyncOne
+each_sync_one k linked exceed h calls fall b one other copy =
+    let m = master_settings k in
     let i = k.domain in
     let s = one.sync in
     let r = rows k linked h calls b one in
     let past = not_after k h fall b one in
-    let same : isSync s ≡ isSync other = ap ofSync copy.same in
-    let its = sync-known m i _ r s one.copied.sent one.is-sync in
-    let others = sync-known m i _ r other copy.sent (sym same ∙ one.is-sync) in
+    let same : is_sync s ≡ is_sync other = ap of_sync copy.same in
+    let its = sync_known m i _ r s one.copied.sent one.is_a_sync in
+    let others = sync_known m i _ r other copy.sent (sym same ∙ one.is_a_sync) in
     let counter : others.counter ≡ its.counter =
     omega (
       arith,
       its.sent.small,
       others.sent.small,
-      (sync-bytes m i its.counter s its.sent).counter-in,
-      (sync-bytes m i others.counter other others.sent).counter-in,
+      (sync_bytes m i its.counter s its.sent).counter_in_lem,
+      (sync_bytes m i others.counter other others.sent).counter_in_lem,
       ap (λ (l : List ℕ). get_or l 2 0) copy.same,
     ) in
     ⊎_elim (λ e. e)

@@ -11,37 +11,37 @@ use Rattle.promise.proofs.Tests.{both}
 use Rattle.refusal.specs.declared.Refusal.TheVariants.{Settings}
 use Rattle.settings.specs.declared.domain_settings.DomainSettings.{DomainSettings}
 use Rattle.settings.specs.declared.domain_settings.Role.{Role}
-use Rattle.settings.specs.Domain.{absentHeld}
-use Rattle.settings.specs.Ranges.{within, isGoodAs, isGood}
-use Rattle.settings.proofs.ranges.Laws.{SlaveRange, MasterRange, slave-range, master-range}
+use Rattle.settings.specs.Domain.{absent_held}
+use Rattle.settings.specs.Ranges.{within, is_good_as, is_good}
+use Rattle.settings.proofs.ranges.Laws.{SlaveRange, MasterRange, slave_range, master_range}
 use Rattle.settings.specs.declared.node_settings.NodeSettings.{NodeSettings}
 use Rattle.settings.specs.declared.node_settings.Verdict.TheVariants.{Good, Refused}
-use Rattle.settings.specs.Node.{allGood, judgedOf}
-use Rattle.history.specs.History.{Link, masterSettings, slaveSettings}
+use Rattle.settings.specs.Node.{all_good, judged_of}
+use Rattle.history.specs.History.{Link, master_settings, slave_settings}
 use Rattle.history.specs.Demand.{Linked}
 
-all-good : (l : List DomainSettings) → allGood l ≡ true → (i : ℕ) → isGood (get_or l i absentHeld) ≡ true
-all-good [] e i = refl
-all-good (s ∷ rest) e zero = (both (isGood s) (allGood rest) e).0
-all-good (s ∷ rest) e (suc i) = all-good rest (both (isGood s) (allGood rest) e).1 i
+all_good_lem : (l : List DomainSettings) → all_good l ≡ true → (i : ℕ) → is_good (get_or l i absent_held) ≡ true
+all_good_lem [] e i = refl
+all_good_lem (s ∷ rest) e zero = (both (is_good s) (all_good rest) e).0
+all_good_lem (s ∷ rest) e (suc i) = all_good_lem rest (both (is_good s) (all_good rest) e).1 i
 
-judged-good : (b : Bool) → cond b Good (Refused Settings) ≡ Good → b ≡ true
-judged-good true e = refl
-judged-good false e = let no : ◌≡◌ {A = ℕ} 0 1 = cc in absurd (omega arith)
+judged_good : (b : Bool) → cond b Good (Refused Settings) ≡ Good → b ≡ true
+judged_good true e = refl
+judged_good false e = let no : ◌≡◌ {A = ℕ} 0 1 = cc in absurd (omega arith)
 
-settings-good : (n : NodeSettings) → judgedOf n ≡ Good → (i : ℕ) → isGood (get_or n.domains i absentHeld) ≡ true
-settings-good n e i =
-    all-good n.domains (both (within 1 16 n.syncs_per_cycle) (allGood n.domains) (judged-good _ e)).1 i
+settings_good : (n : NodeSettings) → judged_of n ≡ Good → (i : ℕ) → is_good (get_or n.domains i absent_held) ≡ true
+settings_good n e i =
+    all_good_lem n.domains (both (within 1 16 n.syncs_per_cycle) (all_good n.domains) (judged_good _ e)).1 i
 
 module _ (k : Link) (l : Linked k) where
-  pub slave-in-range : SlaveRange (slaveSettings k)
-  slave-in-range =
-      slave-range (slaveSettings k)
-      (subst (λ (r : Role). isGoodAs r (slaveSettings k) ≡ true) l.slave
-      (settings-good k.slave l.slave-good k.domain))
+  pub slave_in_range : SlaveRange (slave_settings k)
+  slave_in_range =
+      slave_range (slave_settings k)
+      (subst (λ (r : Role). is_good_as r (slave_settings k) ≡ true) l.slave
+      (settings_good k.slave l.good_slave k.domain))
 
-  pub master-in-range : MasterRange (masterSettings k)
-  master-in-range =
-      master-range (masterSettings k)
-      (subst (λ (r : Role). isGoodAs r (masterSettings k) ≡ true) l.master
-      (settings-good k.master l.master-good k.domain))
+  pub master_in_range : MasterRange (master_settings k)
+  master_in_range =
+      master_range (master_settings k)
+      (subst (λ (r : Role). is_good_as r (master_settings k) ≡ true) l.master
+      (settings_good k.master l.good_master k.domain))

@@ -10,21 +10,21 @@ use Rattle.clock.specs.declared.reading.VirtualLocalTime.{VirtualLocalTime}
 use Rattle.clock.specs.declared.time.GlobalTime.{GlobalTime}
 use Rattle.clock.specs.declared.base.Held.{Held}
 use Rattle.clock.specs.declared.base.Held.TheVariants.{Unset, Set}
-use Rattle.clock.specs.Base.{timeAt}
+use Rattle.clock.specs.Base.{time_at}
 use Rattle.frame_read.specs.declared.Read.{Read}
 use Rattle.frame_read.specs.declared.Read.TheVariants.{LengthNot8, NoSuchType, Values}
 use Rattle.frame_read.specs.Read.{read_of}
 use Rattle.frame_check.specs.Check.{is_taken}
 use Rattle.settings.specs.declared.domain_settings.DomainSettings.{DomainSettings}
-use Rattle.settings.specs.Domain.{absentHeld}
+use Rattle.settings.specs.Domain.{absent_held}
 use Rattle.settings.specs.declared.node_settings.NodeSettings.{NodeSettings}
 use Rattle.domain.specs.declared.Domain.{Domain}
-use Rattle.frame.specs.ByteTwo.{counterOf}
-use Rattle.frame.specs.Values.{domainIn}
-use Rattle.domain.specs.Records.{recordAt}
+use Rattle.frame.specs.ByteTwo.{counter_of}
+use Rattle.frame.specs.Values.{domain_in}
+use Rattle.domain.specs.Records.{record_at}
 use Rattle.node.specs.declared.Node.{Node}
-use Rattle.node.specs.New.{newOf}
-use Rattle.node.specs.Frame.{addressedBy}
+use Rattle.node.specs.New.{new_of}
+use Rattle.node.specs.Frame.{addressed_by}
 use Rattle.node_call.specs.Calls.{
   Call,
   frame,
@@ -33,9 +33,9 @@ use Rattle.node_call.specs.Calls.{
   cycle,
   confirm,
   reading_of,
-  nodeAfter,
-  answerTo,
-  givenBy,
+  node_after,
+  answer_to,
+  given_by,
 }
 
 -- ---- what stands in a list
@@ -49,46 +49,46 @@ pub record Link : Type 0 where
   pub master : NodeSettings
   pub slave : NodeSettings
   pub domain : ℕ
-  pub masterAdds : ℕ
-  pub slaveAdds : ℕ
+  pub master_adds : ℕ
+  pub slave_adds : ℕ
   pub e : ℕ
 
-abbrev pub masterSettings : Link → DomainSettings
-masterSettings k = get_or k.master.domains k.domain absentHeld
+abbrev pub master_settings : Link → DomainSettings
+master_settings k = get_or k.master.domains k.domain absent_held
 
-abbrev pub slaveSettings : Link → DomainSettings
-slaveSettings k = get_or k.slave.domains k.domain absentHeld
+abbrev pub slave_settings : Link → DomainSettings
+slave_settings k = get_or k.slave.domains k.domain absent_held
 
-abbrev pub onMaster : Link → VirtualLocalTime → ℕ
-onMaster k t = t.0 + k.masterAdds
+abbrev pub on_master : Link → VirtualLocalTime → ℕ
+on_master k t = t.0 + k.master_adds
 
-abbrev pub onSlave : Link → VirtualLocalTime → ℕ
-onSlave k t = t.0 + k.slaveAdds
+abbrev pub on_slave : Link → VirtualLocalTime → ℕ
+on_slave k t = t.0 + k.slave_adds
 
 -- ---- A call of either node, and a history.
 pub data Event : Type 0 where
-  atMaster : Call → Event
-  atSlave : Call → Event
+  at_master : Call → Event
+  at_slave : Call → Event
 
 abbrev pub History : Type 0
 History = List Event
 
 -- ---- The nodes after it, both fresh before: "neither set up again".
-abbrev pub masterAfter : Link → History → Node
-masterAfter k [] = (newOf k.master).node
-masterAfter k (atMaster c ∷ h) = nodeAfter (masterAfter k h) c
-masterAfter k (atSlave c ∷ h) = masterAfter k h
+abbrev pub master_after : Link → History → Node
+master_after k [] = (new_of k.master).node
+master_after k (at_master c ∷ h) = node_after (master_after k h) c
+master_after k (at_slave c ∷ h) = master_after k h
 
-abbrev pub slaveAfter : Link → History → Node
-slaveAfter k [] = (newOf k.slave).node
-slaveAfter k (atMaster c ∷ h) = slaveAfter k h
-slaveAfter k (atSlave c ∷ h) = nodeAfter (slaveAfter k h) c
+abbrev pub slave_after : Link → History → Node
+slave_after k [] = (new_of k.slave).node
+slave_after k (at_master c ∷ h) = slave_after k h
+slave_after k (at_slave c ∷ h) = node_after (slave_after k h) c
 
-abbrev pub masterRecord : Link → History → Domain
-masterRecord k h = recordAt (masterAfter k h).domains k.domain
+abbrev pub master_record : Link → History → Domain
+master_record k h = record_at (master_after k h).domains k.domain
 
-abbrev pub slaveRecord : Link → History → Domain
-slaveRecord k h = recordAt (slaveAfter k h).domains k.domain
+abbrev pub slave_record : Link → History → Domain
+slave_record k h = record_at (slave_after k h).domains k.domain
 
 -- ---- "A frame is sent at the reading of the call that gives it": its bytes, that reading, and the master's
 -- time in the domain at it, which is a SYNC's whole time.
@@ -97,58 +97,58 @@ pub record Sent : Type 0 where
   pub at : VirtualLocalTime
   pub time : GlobalTime
 
-abbrev pub timeIn : Held → VirtualLocalTime → GlobalTime
-timeIn Unset t = record { 0 = 0; 1 = 0 }
-timeIn (Set b) t = timeAt b t
+abbrev pub time_in : Held → VirtualLocalTime → GlobalTime
+time_in Unset t = record { 0 = 0; 1 = 0 }
+time_in (Set b) t = time_at b t
 
 -- those of the frames that are of the domain, one after another
 abbrev pub noted : (domain : ℕ) → VirtualLocalTime → GlobalTime → List (List ℕ) → List Sent → List Sent
 noted domain t g [] older = older
 noted domain t g (bytes ∷ rest) older =
     noted domain t g rest
-    (cond (eqb (addressedBy bytes) domain) (record { bytes = bytes; at = t; time = g } ∷ older) older)
+    (cond (eqb (addressed_by bytes) domain) (record { bytes = bytes; at = t; time = g } ∷ older) older)
 
-abbrev pub sentIn : Link → History → List Sent
-sentIn k [] = []
-sentIn k (atMaster c ∷ h) =
-    noted k.domain (reading_of c) (timeIn (masterRecord k h).base (reading_of c))
-    (givenBy (answerTo (masterAfter k h) c))
-    (sentIn k h)
-sentIn k (atSlave c ∷ h) = sentIn k h
+abbrev pub sent_in : Link → History → List Sent
+sent_in k [] = []
+sent_in k (at_master c ∷ h) =
+    noted k.domain (reading_of c) (time_in (master_record k h).base (reading_of c))
+    (given_by (answer_to (master_after k h) c))
+    (sent_in k h)
+sent_in k (at_slave c ∷ h) = sent_in k h
 
 -- the kind, as byte 0 says it, and the counter, as byte 2 does
-abbrev pub isSync : Sent → Bool
-isSync s = eqb (get_or s.bytes 0 0) 0x10 || eqb (get_or s.bytes 0 0) 0x20
+abbrev pub is_sync : Sent → Bool
+is_sync s = eqb (get_or s.bytes 0 0) 0x10 || eqb (get_or s.bytes 0 0) 0x20
 
-abbrev pub isFup : Sent → Bool
-isFup s = eqb (get_or s.bytes 0 0) 0x18 || eqb (get_or s.bytes 0 0) 0x28
+abbrev pub is_fup : Sent → Bool
+is_fup s = eqb (get_or s.bytes 0 0) 0x18 || eqb (get_or s.bytes 0 0) 0x28
 
-abbrev pub counterIn : Sent → ℕ
-counterIn s = counterOf (get_or s.bytes 2 0)
+abbrev pub counter_in : Sent → ℕ
+counter_in s = counter_of (get_or s.bytes 2 0)
 
 -- ---- Heard: what a frame call hands in that passes tests 2 to 5 in the domain. "A copy arrives at the reading of
 -- the frame call that hands it in."
-abbrev pub isRead : Read → (domain : ℕ) → Bool
-isRead LengthNot8 domain = false
-isRead NoSuchType domain = false
-isRead (Values values) domain = eqb (domainIn values) domain
+abbrev pub is_read : Read → (domain : ℕ) → Bool
+is_read LengthNot8 domain = false
+is_read NoSuchType domain = false
+is_read (Values values) domain = eqb (domain_in values) domain
 
-abbrev pub isHeard : Link → List ℕ → Bool
-isHeard k bytes =
-    isRead (read_of bytes) k.domain && is_taken (slaveSettings k).mode (slaveSettings k).ids bytes
+abbrev pub is_heard : Link → List ℕ → Bool
+is_heard k bytes =
+    is_read (read_of bytes) k.domain && is_taken (slave_settings k).mode (slave_settings k).ids bytes
 
 pub record Heard : Type 0 where
   pub bytes : List ℕ
   pub at : VirtualLocalTime
 
-abbrev pub heardBy : Link → Call → List Heard
-heardBy k (frame t bytes) = cond (isHeard k bytes) (record { bytes = bytes; at = t } ∷ []) []
-heardBy k (read domain t) = []
-heardBy k (set domain t s ns) = []
-heardBy k (cycle t out) = []
-heardBy k (confirm domain t counter out) = []
+abbrev pub heard_by : Link → Call → List Heard
+heard_by k (frame t bytes) = cond (is_heard k bytes) (record { bytes = bytes; at = t } ∷ []) []
+heard_by k (read domain t) = []
+heard_by k (set domain t s ns) = []
+heard_by k (cycle t out) = []
+heard_by k (confirm domain t counter out) = []
 
-abbrev pub heardIn : Link → History → List Heard
-heardIn k [] = []
-heardIn k (atMaster c ∷ h) = heardIn k h
-heardIn k (atSlave c ∷ h) = heardBy k c ++ heardIn k h
+abbrev pub heard_in : Link → History → List Heard
+heard_in k [] = []
+heard_in k (at_master c ∷ h) = heard_in k h
+heard_in k (at_slave c ∷ h) = heard_by k c ++ heard_in k h

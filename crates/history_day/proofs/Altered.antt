@@ -1,6 +1,6 @@
 -- Each statement of demand 3 that a must-fail edit of `history` alters is false: antt computes a history that refutes
 -- it. The laws have the names of the edits. As the demand has them, the same forms hold, so what is false is what the
--- edit alters. Of the edits of the three bounds see `follow-up-exceeded`, `confirmation-exceeded` and `loss-exceeded`.
+-- edit alters. Of the edits of the three bounds see `follow_up_exceeded`, `confirmation_exceeded` and `loss_exceeded`.
 -- No contract cites this file.
 --   held-unaltered, over-unaltered, near-unaltered, one-unaltered, confirms-unaltered, taken-unaltered,
 --   heard-unaltered
@@ -38,51 +38,51 @@ use Rattle.clock.specs.declared.time.GlobalTime.{GlobalTime}
 use Rattle.clock.specs.declared.base.TimeBase.{TimeBase}
 use Rattle.clock.specs.declared.base.Held.TheVariants.{Set}
 use Rattle.clock.specs.Base.{base_of}
-use Rattle.crc8.specs.Crc8.{step_of, eightStepsOf, crcOf, checkOf}
+use Rattle.crc8.specs.Crc8.{step_of, eight_steps_of, crc_of, check_of}
 use Rattle.round.specs.Round.{goes}
-use Rattle.node_call.specs.Calls.{Call, frame, read, set, cycle, confirm, numbered, answerTo}
+use Rattle.node_call.specs.Calls.{Call, frame, read, set, cycle, confirm, numbered, answer_to}
 use Rattle.history.specs.History.{
   Link,
   Event,
-  atMaster,
-  atSlave,
+  at_master,
+  at_slave,
   History,
-  slaveAfter,
-  slaveRecord,
+  slave_after,
+  slave_record,
   Sent,
-  sentIn,
+  sent_in,
   In,
-  counterIn,
+  counter_in,
 }
 use Rattle.history.specs.Demand.{Linked, Reads, TimeOfOne, Copy, Fair}
-use Rattle.history.proofs.Grown.{in-more}
-use Rattle.history.proofs.HeardAll.{each-frame-heard}
-use Rattle.history.proofs.Confirms.{each-fup-confirms}
-use Rattle.history.proofs.Held.{each-time-held}
-use Rattle.history.proofs.One.{each-sync-one, each-time-near}
-use Rattle.history.proofs.Taken.{each-pair-taken}
+use Rattle.history.proofs.Grown.{in_more}
+use Rattle.history.proofs.HeardAll.{each_frame_heard}
+use Rattle.history.proofs.Confirms.{each_fup_confirms}
+use Rattle.history.proofs.Held.{each_time_held}
+use Rattle.history.proofs.One.{each_sync_one, each_time_near}
+use Rattle.history.proofs.Taken.{each_pair_taken}
 use Rattle.history_day.specs.Met.{HeldMet, PairMet}
 use Rattle.history_day.specs.Settings.{ms}
 use Rattle.history_day.specs.Edges.{
-  followUpEdge,
-  followUpBase,
-  anewLink,
-  anewDay,
-  anewBase,
-  nearLink,
-  nearSync,
-  behindFup,
-  behindDay,
-  behindBase,
-  aheadFup,
-  aheadDay,
-  lossLink,
+  follow_up_edge,
+  follow_up_base,
+  anew_link,
+  anew_day,
+  anew_base,
+  near_link,
+  near_sync,
+  behind_fup,
+  behind_day,
+  behind_base,
+  ahead_fup,
+  ahead_day,
+  loss_link,
 }
 use Rattle.history_day.specs.Altered.{
-  byE,
-  byC,
+  by_e,
+  by_c,
   Tie,
-  carriedOn,
+  carried_on,
   unaltered,
   TimeOf,
   HeldBy,
@@ -95,7 +95,7 @@ use Rattle.history_day.specs.Altered.{
   NearBy,
   NeverBehind,
   NeverAhead,
-  anyReading,
+  any_reading,
   TiedAtAnyReading,
   HeldAtAnyReading,
   OneBy,
@@ -107,50 +107,50 @@ use Rattle.history_day.specs.Altered.{
   TakenBy,
   EachTakenBy,
   zeroes,
-  withCall,
+  with_call,
   FirstPairOnly,
   NoModulo,
   HeardIf,
   AnyListsRead,
-  halfLink,
-  setSync,
-  setFup,
-  setDay,
-  setBase,
-  clocksLink,
-  clocksDay,
-  clocksBase,
-  syncWithin,
-  sentWithin,
-  alikeFup,
-  alikeBefore,
-  alikeDay,
-  alikeBase,
-  roundMoment,
-  roundFup,
-  roundSync,
-  roundOlder,
-  roundBefore,
-  roundEarlier,
-  roundDay,
-  listsLink,
-  listsDay,
-  listsSync,
+  half_link,
+  set_sync,
+  set_fup,
+  set_day,
+  set_base,
+  clocks_link,
+  clocks_day,
+  clocks_base,
+  sync_within,
+  sent_within,
+  alike_fup,
+  alike_before,
+  alike_day,
+  alike_base,
+  round_moment,
+  round_fup,
+  round_sync,
+  round_older,
+  round_before,
+  round_earlier,
+  round_day,
+  lists_link,
+  lists_day,
+  lists_sync,
 }
-use Rattle.history_day.proofs.Tests.{linked-by, fair, held-met, taken-met, all_same}
-use Rattle.history_day.proofs.Edges.{under-exceed, follow-up-wrong, anew-met, behind-by-e, ahead-by-c, loss-met}
+use Rattle.history_day.proofs.Tests.{linked_by, fair, held_met, taken_met, all_same_lem}
+use Rattle.history_day.proofs.Edges.{under_exceed, follow_up_wrong, anew_met, behind_by_e, ahead_by_c, loss_met}
 
 -- ---- the forms as the demand has them
-abbrev as-told : (k : Link) (h : History) (b : TimeBase) → TimeOfOne k h b → TimeOf unaltered k h b
-as-told k h b one =
+abbrev as_told : (k : Link) (h : History) (b : TimeBase) → TimeOfOne k h b → TimeOf unaltered k h b
+as_told k h b one =
     record {
       sync = one.sync;
       fup = one.fup;
       newer = one.newer;
       older = one.older;
       sent = one.sent;
-      is-sync = one.is-sync;
-      is-fup = one.is-fup;
+      is_a_sync = one.is_a_sync;
+      is_a_fup = one.is_a_fup;
       time = one.time;
       after = one.after;
       before = one.before;
@@ -166,8 +166,8 @@ as_one k h b told =
       newer = told.newer;
       older = told.older;
       sent = told.sent;
-      is-sync = told.is-sync;
-      is-fup = told.is-fup;
+      is_a_sync = told.is_a_sync;
+      is_a_fup = told.is_a_fup;
       time = told.time;
       after = told.after;
       before = told.before;
@@ -175,37 +175,37 @@ as_one k h b told =
       copied = told.copied;
     }
 
-pub held-unaltered : HeldBy unaltered
-held-unaltered k exceed h f b holds =
-    as-told k h b (held-met k h b (record { fair = f; exceed = exceed; holds = holds }) each-time-held)
+pub held_unaltered : HeldBy unaltered
+held_unaltered k exceed h f b holds =
+    as_told k h b (held_met k h b (record { fair = f; exceed = exceed; holds = holds }) each_time_held)
 
-pub over-unaltered : HeldOver (λ k. k)
-over-unaltered = under-exceed each-time-held
+pub over_unaltered : HeldOver (λ k. k)
+over_unaltered = under_exceed each_time_held
 
-pub near-unaltered : NearBy unaltered byE byC
-near-unaltered k h f b told =
-    let near = each-time-near k f.linked h f.calls f.never-fall b (as_one k h b told) in
+pub near_unaltered : NearBy unaltered by_e by_c
+near_unaltered k h f b told =
+    let near = each_time_near k f.linked h f.calls f.never_fall b (as_one k h b told) in
     record { behind = near.behind; ahead = near.ahead }
 
-pub one-unaltered : OneBy (λ other b. b.at)
-one-unaltered k exceed h f = each-sync-one k f.linked exceed h f.calls f.never-fall
+pub one_unaltered : OneBy (λ other b. b.at)
+one_unaltered k exceed h f = each_sync_one k f.linked exceed h f.calls f.never_fall
 
-pub confirms-unaltered : EachConfirmsBy byC 0
-confirms-unaltered k h f newer older fup sent is =
-    let c = each-fup-confirms k f.linked h f.calls newer older fup sent is in
+pub confirms_unaltered : EachConfirmsBy by_c 0
+confirms_unaltered k h f newer older fup sent is =
+    let c = each_fup_confirms k f.linked h f.calls newer older fup sent is in
     record {
       sync = c.sync;
       rest = c.rest;
       next = c.next;
-      is-sync = c.is-sync;
+      is_a_sync = c.is_a_sync;
       counter = omega (arith, c.counter);
-      not-before = c.not-before;
-      in-time = c.in-time;
+      not_before = c.not_before;
+      in_time = c.in_time;
     }
 
-pub taken-unaltered : EachTakenBy zeroes withCall
-taken-unaltered k h moment newer fup sync older met row =
-    let t = taken-met each-pair-taken k h moment newer fup sync older met row in
+pub taken_unaltered : EachTakenBy zeroes with_call
+taken_unaltered k h moment newer fup sync older met row =
+    let t = taken_met each_pair_taken k h moment newer fup sync older met row in
     record {
       after = t.after;
       before = t.before;
@@ -216,15 +216,15 @@ taken-unaltered k h moment newer fup sync older met row =
       updates = t.updates;
     }
 
-pub heard-unaltered : HeardIf Reads
-heard-unaltered = each-frame-heard
+pub heard_unaltered : HeardIf Reads
+heard_unaltered = each_frame_heard
 
 -- ---- copies twice E late
-pub copy-up-to-twice-e-false : CopyUpToTwiceE → ⊥
-copy-up-to-twice-e-false each =
-    follow-up-wrong.wrong
-    (each halfLink (record { follow-up = omega arith; confirmation = omega arith }) followUpEdge
-    follow-up-wrong.fair followUpBase follow-up-wrong.holds)
+pub copy_up_to_twice_e_false : CopyUpToTwiceE → ⊥
+copy_up_to_twice_e_false each =
+    follow_up_wrong.wrong
+    (each half_link (record { follow_up = omega arith; confirmation = omega arith }) follow_up_edge
+    follow_up_wrong.fair follow_up_base follow_up_wrong.holds)
 
 -- ---- what is handed in where
 abbrev hands : VirtualLocalTime → (kind : ℕ) → Call → Bool
@@ -234,9 +234,9 @@ hands at kind (set domain t seconds nanoseconds) = false
 hands at kind (cycle t out) = false
 hands at kind (confirm domain t counter out) = false
 
-abbrev handsIn : VirtualLocalTime → (kind : ℕ) → Event → Bool
-handsIn at kind (atMaster c) = false
-handsIn at kind (atSlave c) = hands at kind c
+abbrev hands_in : VirtualLocalTime → (kind : ℕ) → Event → Bool
+hands_in at kind (at_master c) = false
+hands_in at kind (at_slave c) = hands at kind c
 
 abbrev none : (Event → Bool) → History → Bool
 none is [] = true
@@ -249,245 +249,245 @@ not_there is [] x before e p = true≢false (sym p ∙ not-true (is x) (both (no
 not_there is (y ∷ after) x before e p =
     not_there is after x before (both (not (is y)) (none is (after ++ (x ∷ before))) e).1 p
 
-newest-there :
+newest_there :
     (is : Event → Bool) (y : Event) (h after : History) (x : Event) (before : History) → none is h ≡ true →
     is x ≡ true → y ∷ h ≡ after ++ (x ∷ before) → h ≡ before
-newest-there is y h [] x before e p q = cc
-newest-there is y h (z ∷ after) x before e p q =
+newest_there is y h [] x before e p q = cc
+newest_there is y h (z ∷ after) x before e p q =
     let tail : h ≡ after ++ (x ∷ before) = cc in
     absurd (not_there is after x before (ap (none is) (sym tail) ∙ e) p)
 
 -- ---- a pair alone
-only-pair :
+only_pair :
     (newer older : List Sent) (fup sync f s : Sent) → f ∷ s ∷ [] ≡ newer ++ (fup ∷ sync ∷ older) →
     (f ≡ fup) × (s ≡ sync)
-only-pair [] older fup sync f s e = (cc, cc)
-only-pair (x ∷ []) older fup sync f s e = let z : ◌≡◌ {A = ℕ} 0 1 = cc in absurd (omega arith)
-only-pair (x ∷ y ∷ []) older fup sync f s e = let z : ◌≡◌ {A = ℕ} 0 1 = cc in absurd (omega arith)
-only-pair (x ∷ y ∷ w ∷ newer) older fup sync f s e = let z : ◌≡◌ {A = ℕ} 0 1 = cc in absurd (omega arith)
+only_pair [] older fup sync f s e = (cc, cc)
+only_pair (x ∷ []) older fup sync f s e = let z : ◌≡◌ {A = ℕ} 0 1 = cc in absurd (omega arith)
+only_pair (x ∷ y ∷ []) older fup sync f s e = let z : ◌≡◌ {A = ℕ} 0 1 = cc in absurd (omega arith)
+only_pair (x ∷ y ∷ w ∷ newer) older fup sync f s e = let z : ◌≡◌ {A = ℕ} 0 1 = cc in absurd (omega arith)
 
 -- ---- a set between a SYNC and its confirmation
-pub set-met : HeldMet nearLink setDay setBase
+pub set_met : HeldMet near_link set_day set_base
 unfolding goes
-set-met =
+set_met =
     record {
-      fair = fair nearLink behind-by-e.met.fair.linked refl setDay refl;
-      exceed = behind-by-e.met.exceed;
+      fair = fair near_link behind_by_e.met.fair.linked refl set_day refl;
+      exceed = behind_by_e.met.exceed;
       holds = refl;
     }
 
-set-sent : setFup ∷ setSync ∷ [] ≡ sentIn nearLink setDay
+set_sent : set_fup ∷ set_sync ∷ [] ≡ sent_in near_link set_day
 unfolding goes
-set-sent = refl
+set_sent = refl
 
 module _ (t : Tie) (each : HeldBy t) where
-  set_told : TimeOf t nearLink setDay setBase
-  set_told = each nearLink set-met.exceed setDay set-met.fair setBase set-met.holds
+  set_told : TimeOf t near_link set_day set_base
+  set_told = each near_link set_met.exceed set_day set_met.fair set_base set_met.holds
 
-  set_pair : (setFup ≡ set_told.fup) × (setSync ≡ set_told.sync)
+  set_pair : (set_fup ≡ set_told.fup) × (set_sync ≡ set_told.sync)
   set_pair =
-      only-pair set_told.newer set_told.older set_told.fup set_told.sync setFup setSync
-      (set-sent ∙ set_told.sent)
+      only_pair set_told.newer set_told.older set_told.fup set_told.sync set_fup set_sync
+      (set_sent ∙ set_told.sent)
 
-  set-time : setBase.time ≡ t.time setSync setFup
-  set-time = set_told.time ∙ ap₂ t.time (sym set_pair.1) (sym set_pair.0)
+  set_time : set_base.time ≡ t.time set_sync set_fup
+  set_time = set_told.time ∙ ap₂ t.time (sym set_pair.1) (sym set_pair.0)
 
-pub base-at-the-sync-false : BaseAtTheSync → ⊥
-base-at-the-sync-false each = omega (arith, ap (λ (g : GlobalTime). g.0) (set-time _ each))
+pub base_at_the_sync_false : BaseAtTheSync → ⊥
+base_at_the_sync_false each = omega (arith, ap (λ (g : GlobalTime). g.0) (set_time _ each))
 
-pub ovs-dropped-false : OvsDropped → ⊥
-ovs-dropped-false each = omega (arith, ap (λ (g : GlobalTime). g.0) (set-time _ each))
+pub ovs_dropped_false : OvsDropped → ⊥
+ovs_dropped_false each = omega (arith, ap (λ (g : GlobalTime). g.0) (set_time _ each))
 
-pub time-set-after-the-sync-false : TimeSetAfterTheSync → ⊥
-time-set-after-the-sync-false each = omega (arith, ap (λ (g : GlobalTime). g.0) (set-time _ each))
+pub time_set_after_the_sync_false : TimeSetAfterTheSync → ⊥
+time_set_after_the_sync_false each = omega (arith, ap (λ (g : GlobalTime). g.0) (set_time _ each))
 
-pub tied-to-the-fup-false : TiedToTheFup → ⊥
-tied-to-the-fup-false each =
+pub tied_to_the_fup_false : TiedToTheFup → ⊥
+tied_to_the_fup_false each =
     let told = set_told _ each in
-    let copy : setDay ≡ told.after ++ (atSlave (frame (ms 1001) setFup.bytes) ∷ told.before) =
+    let copy : set_day ≡ told.after ++ (at_slave (frame (ms 1001) set_fup.bytes) ∷ told.before) =
     told.copy
-    ∙ ap (λ (f : Sent). told.after ++ (atSlave (frame (ms 1001) f.bytes) ∷ told.before))
+    ∙ ap (λ (f : Sent). told.after ++ (at_slave (frame (ms 1001) f.bytes) ∷ told.before))
     (sym (set_pair _ each).0) in
-    let is = handsIn (ms 1001) 0x18 in
+    let is = hands_in (ms 1001) 0x18 in
     not_there is told.after _ told.before (ap (none is) (sym copy)) refl
 
 -- ---- how far a time is off
-pub never-behind-false : NeverBehind → ⊥
-never-behind-false each =
-    let off = each nearLink behindDay behind-by-e.met.fair behindBase (as-told _ _ _ behind-by-e.one) in
-    omega (arith, off.behind, behind-by-e.behind)
+pub never_behind_false : NeverBehind → ⊥
+never_behind_false each =
+    let off = each near_link behind_day behind_by_e.met.fair behind_base (as_told _ _ _ behind_by_e.one) in
+    omega (arith, off.behind, behind_by_e.behind)
 
-pub never-ahead-false : NeverAhead → ⊥
-never-ahead-false each =
-    let off = each nearLink aheadDay ahead-by-c.met.fair _ (as-told _ _ _ ahead-by-c.one) in
-    omega (arith, off.ahead, ahead-by-c.ahead)
+pub never_ahead_false : NeverAhead → ⊥
+never_ahead_false each =
+    let off = each near_link ahead_day ahead_by_c.met.fair _ (as_told _ _ _ ahead_by_c.one) in
+    omega (arith, off.ahead, ahead_by_c.ahead)
 
 -- ---- a time tied anew
-anew-sent : sentWithin 1 16 ++ (aheadFup ∷ nearSync ∷ []) ≡ sentIn anewLink anewDay
+anew_sent : sent_within 1 16 ++ (ahead_fup ∷ near_sync ∷ []) ≡ sent_in anew_link anew_day
 unfolding goes
-anew-sent = all_same (sentWithin 1 16 ++ (aheadFup ∷ nearSync ∷ [])) (sentIn anewLink anewDay) refl
+anew_sent = all_same_lem (sent_within 1 16 ++ (ahead_fup ∷ near_sync ∷ [])) (sent_in anew_link anew_day) refl
 
-anew-told : TimeOf anyReading anewLink anewDay anewBase
-anew-told =
+anew_told : TimeOf any_reading anew_link anew_day anew_base
+anew_told =
     record {
-      sync = nearSync;
-      fup = aheadFup;
-      newer = sentWithin 1 16;
+      sync = near_sync;
+      fup = ahead_fup;
+      newer = sent_within 1 16;
       older = [];
-      sent = sym anew-sent;
-      is-sync = refl;
-      is-fup = refl;
+      sent = sym anew_sent;
+      is_a_sync = refl;
+      is_a_fup = refl;
       time = refl;
       after = [];
-      before = drop 1 anewDay;
+      before = drop 1 anew_day;
       copy = refl;
       copied =
           record {
             sent =
-                subst (In nearSync) anew-sent
-                (in-more nearSync (sentWithin 1 16) (aheadFup ∷ nearSync ∷ []) (inr (inl refl)));
+                subst (In near_sync) anew_sent
+                (in_more near_sync (sent_within 1 16) (ahead_fup ∷ near_sync ∷ []) (inr (inl refl)));
             same = refl;
             soon = omega arith;
           };
     }
 
-pub tied-at-any-reading-false : TiedAtAnyReading → ⊥
-unfolding anew-told
-tied-at-any-reading-false each =
-    omega (arith, (each anewLink anewDay anew-met.fair anewBase anew-told).behind)
+pub tied_at_any_reading_false : TiedAtAnyReading → ⊥
+unfolding anew_told
+tied_at_any_reading_false each =
+    omega (arith, (each anew_link anew_day anew_met.fair anew_base anew_told).behind)
 
 -- ---- clocks that differ
-clocks-linked : Linked clocksLink
-clocks-linked = linked-by _ (omega arith) refl refl refl refl refl refl
+clocks_linked : Linked clocks_link
+clocks_linked = linked_by _ (omega arith) refl refl refl refl refl refl
 
-pub clocks-met : HeldMet clocksLink clocksDay clocksBase
+pub clocks_met : HeldMet clocks_link clocks_day clocks_base
 unfolding goes
-clocks-met =
+clocks_met =
     record {
-      fair = fair clocksLink clocks-linked refl clocksDay refl;
-      exceed = record { follow-up = omega arith; confirmation = omega arith };
+      fair = fair clocks_link clocks_linked refl clocks_day refl;
+      exceed = record { follow_up = omega arith; confirmation = omega arith };
       holds = refl;
     }
 
-clocks-sent : behindFup ∷ nearSync ∷ [] ≡ sentIn clocksLink clocksDay
+clocks_sent : behind_fup ∷ near_sync ∷ [] ≡ sent_in clocks_link clocks_day
 unfolding goes
-clocks-sent = refl
+clocks_sent = refl
 
-pub held-at-any-reading-false : HeldAtAnyReading → ⊥
-held-at-any-reading-false each =
-    let told = each clocksLink clocks-met.exceed clocksDay clocks-met.fair clocksBase clocks-met.holds in
+pub held_at_any_reading_false : HeldAtAnyReading → ⊥
+held_at_any_reading_false each =
+    let told = each clocks_link clocks_met.exceed clocks_day clocks_met.fair clocks_base clocks_met.holds in
     let pair =
-    only-pair told.newer told.older told.fup told.sync behindFup nearSync (clocks-sent ∙ told.sent) in
+    only_pair told.newer told.older told.fup told.sync behind_fup near_sync (clocks_sent ∙ told.sent) in
     omega (arith, told.copied.soon, ap (λ (s : Sent). s.at.0) pair.1)
 
 -- ---- SYNCs alike
-alike-sent : alikeFup ∷ sentWithin 0 17 ≡ sentIn anewLink alikeDay
+alike_sent : alike_fup ∷ sent_within 0 17 ≡ sent_in anew_link alike_day
 unfolding goes
-alike-sent = all_same (alikeFup ∷ sentWithin 0 17) (sentIn anewLink alikeDay) refl
+alike_sent = all_same_lem (alike_fup ∷ sent_within 0 17) (sent_in anew_link alike_day) refl
 
-alike-fair : Fair anewLink alikeDay
+alike_fair : Fair anew_link alike_day
 unfolding goes
-alike-fair = fair anewLink anew-met.fair.linked refl alikeDay refl
+alike_fair = fair anew_link anew_met.fair.linked refl alike_day refl
 
-pub alike-of-one : TimeOfOne anewLink alikeDay alikeBase
-alike-of-one =
+pub alike_of_one : TimeOfOne anew_link alike_day alike_base
+alike_of_one =
     record {
-      sync = syncWithin 16;
-      fup = alikeFup;
+      sync = sync_within 16;
+      fup = alike_fup;
       newer = [];
-      older = sentWithin 0 16;
-      sent = sym alike-sent;
-      is-sync = refl;
-      is-fup = refl;
+      older = sent_within 0 16;
+      sent = sym alike_sent;
+      is_a_sync = refl;
+      is_a_fup = refl;
       time = refl;
       after = _ ∷ [];
-      before = alikeBefore;
+      before = alike_before;
       copy = refl;
       copied =
-          record { sent = subst (In (syncWithin 16)) alike-sent (inr (inl refl)); same = refl; soon = omega arith };
+          record { sent = subst (In (sync_within 16)) alike_sent (inr (inl refl)); same = refl; soon = omega arith };
     }
 
-pub all-alike-are-copied-false : AllAlikeAreCopied → ⊥
-unfolding alike-of-one
-all-alike-are-copied-false each =
-    let copy : In nearSync (sentIn anewLink alikeBefore) =
-    subst (In nearSync) alike-sent (in-more nearSync (alikeFup ∷ sentWithin 1 16) (nearSync ∷ []) (inl refl)) in
-    let same : nearSync ≡ syncWithin 16 =
-    each anewLink anew-met.exceed alikeDay alike-fair alikeBase alike-of-one nearSync
+pub all_alike_are_copied_false : AllAlikeAreCopied → ⊥
+unfolding alike_of_one
+all_alike_are_copied_false each =
+    let copy : In near_sync (sent_in anew_link alike_before) =
+    subst (In near_sync) alike_sent (in_more near_sync (alike_fup ∷ sent_within 1 16) (near_sync ∷ []) (inl refl)) in
+    let same : near_sync ≡ sync_within 16 =
+    each anew_link anew_met.exceed alike_day alike_fair alike_base alike_of_one near_sync
     (record { sent = copy; same = refl; soon = omega arith }) in
     omega (arith, ap (λ (s : Sent). s.at.0) same)
 
 -- ---- confirmations
 module _ (within : Link → ℕ) (up : ℕ) (each : EachConfirmsBy within up) where
-  set-confirms : ConfirmsBy (within nearLink) up setFup (setSync ∷ [])
-  set-confirms = each nearLink setDay set-met.fair [] (setSync ∷ []) setFup (sym set-sent) refl
+  set_confirms : ConfirmsBy (within near_link) up set_fup (set_sync ∷ [])
+  set_confirms = each near_link set_day set_met.fair [] (set_sync ∷ []) set_fup (sym set_sent) refl
 
-  set-sync : setSync ≡ set-confirms.sync
-  set-sync = cc set-confirms.next
+  set_sync_lem : set_sync ≡ set_confirms.sync
+  set_sync_lem = cc set_confirms.next
 
-pub confirmed-at-the-sync-false : ConfirmedAtTheSync → ⊥
-confirmed-at-the-sync-false each =
-    omega (arith, (set-confirms _ _ each).in-time, ap (λ (s : Sent). s.at.0) (set-sync _ _ each))
+pub confirmed_at_the_sync_false : ConfirmedAtTheSync → ⊥
+confirmed_at_the_sync_false each =
+    omega (arith, (set_confirms _ _ each).in_time, ap (λ (s : Sent). s.at.0) (set_sync_lem _ _ each))
 
-pub counter-of-the-next-sync-false : CounterOfTheNextSync → ⊥
-counter-of-the-next-sync-false each =
-    omega (arith, (set-confirms _ _ each).counter, ap counterIn (set-sync _ _ each))
+pub counter_of_the_next_sync_false : CounterOfTheNextSync → ⊥
+counter_of_the_next_sync_false each =
+    omega (arith, (set_confirms _ _ each).counter, ap counter_in (set_sync_lem _ _ each))
 
 -- ---- a counter that goes round
-pub round-met : PairMet lossLink roundDay roundMoment [] roundFup roundSync roundOlder
+pub round_met : PairMet loss_link round_day round_moment [] round_fup round_sync round_older
 unfolding goes
-round-met =
+round_met =
     record {
-      fair = fair lossLink loss-met.fair.linked refl roundDay refl;
-      orderly = record { under-way = []; copies = roundFup ∷ roundSync ∷ roundOlder; all = refl; only = refl };
+      fair = fair loss_link loss_met.fair.linked refl round_day refl;
+      orderly = record { under_way = []; copies = round_fup ∷ round_sync ∷ round_older; all = refl; only = refl };
       copies = refl;
-      is-fup = refl;
+      is_a_fup = refl;
       soon = omega arith;
     }
 
 -- what holds just before the last call
-round-earlier : (slaveRecord lossLink roundBefore).base ≡ Set roundEarlier
+round_earlier_lem : (slave_record loss_link round_before).base ≡ Set round_earlier
 unfolding goes
-round-earlier = refl
+round_earlier_lem = refl
 
-round_number : answerTo (slaveAfter lossLink roundBefore) (frame (ms 4500) roundFup.of.bytes) ≡ numbered 0
+round_number : answer_to (slave_after loss_link round_before) (frame (ms 4500) round_fup.of.bytes) ≡ numbered 0
 unfolding goes
 round_number = refl
 
 module _ (answered : Link → Copy → ℕ) (up_to : Event → History → History) (each : EachTakenBy answered up_to) where
-  round-taken : TakenBy answered up_to lossLink roundMoment roundDay roundFup roundSync roundOlder
-  round-taken = each lossLink roundDay roundMoment [] roundFup roundSync roundOlder round-met (omega arith)
+  round_taken : TakenBy answered up_to loss_link round_moment round_day round_fup round_sync round_older
+  round_taken = each loss_link round_day round_moment [] round_fup round_sync round_older round_met (omega arith)
 
-  round-before : roundBefore ≡ round-taken.before
-  round-before =
-      newest-there (handsIn (ms 4500) 0x18) _ roundBefore round-taken.after _ round-taken.before refl refl
-      round-taken.call
+  round_before_lem : round_before ≡ round_taken.before
+  round_before_lem =
+      newest_there (hands_in (ms 4500) 0x18) _ round_before round_taken.after _ round_taken.before refl refl
+      round_taken.call
 
-pub first-pair-only-false : FirstPairOnly → ⊥
-first-pair-only-false each =
+pub first_pair_only_false : FirstPairOnly → ⊥
+first_pair_only_false each =
     let held =
-    sym round-earlier
-    ∙ ap (λ (h : History). (slaveRecord lossLink h).base) (round-before _ _ each)
-    ∙ (round-taken _ _ each).base in
-    let same : roundEarlier ≡ base_of (carriedOn roundSync.of roundFup.of) roundSync.at = cc held in
+    sym round_earlier_lem
+    ∙ ap (λ (h : History). (slave_record loss_link h).base) (round_before_lem _ _ each)
+    ∙ (round_taken _ _ each).base in
+    let same : round_earlier ≡ base_of (carried_on round_sync.of round_fup.of) round_sync.at = cc held in
     omega (arith, ap (λ (b : TimeBase). b.time.0) same)
 
-pub no-modulo-false : NoModulo → ⊥
-no-modulo-false each =
+pub no_modulo_false : NoModulo → ⊥
+no_modulo_false each =
     let told =
     sym round_number
-    ∙ ap (λ (h : History). answerTo (slaveAfter lossLink h) (frame (ms 4500) roundFup.of.bytes))
-    (round-before _ _ each)
-    ∙ (round-taken _ _ each).number in
+    ∙ ap (λ (h : History). answer_to (slave_after loss_link h) (frame (ms 4500) round_fup.of.bytes))
+    (round_before_lem _ _ each)
+    ∙ (round_taken _ _ each).number in
     let z : ◌≡◌ {A = ℕ} 0 7 = cc told in
     omega arith
 
 -- ---- other DataIDs
-lists-linked : Linked listsLink
-lists-linked = linked-by _ (omega arith) refl refl refl refl refl refl
+lists_linked : Linked lists_link
+lists_linked = linked_by _ (omega arith) refl refl refl refl refl refl
 
-pub any-lists-read-false : AnyListsRead → ⊥
-unfolding goes checkOf crcOf eightStepsOf step_of
-any-lists-read-false each =
+pub any_lists_read_false : AnyListsRead → ⊥
+unfolding goes check_of crc_of eight_steps_of step_of
+any_lists_read_false each =
     false≢true
-    (each listsLink lists-linked (inr (refl, refl)) listsDay ((tt, omega arith), tt) listsSync (inl refl))
+    (each lists_link lists_linked (inr (refl, refl)) lists_day ((tt, omega arith), tt) lists_sync (inl refl))

@@ -10,79 +10,79 @@ use mathlib.Core.Path.{◌≡◌, refl}
 use mathlib.Core.Bool.{true}
 use mathlib.Core.List.{[], ◌∷◌}
 use native.Mathlib.Omega.{arith}
-use Rattle.crc8.specs.Crc8.{step_of, eightStepsOf, crcOf, checkOf}
+use Rattle.crc8.specs.Crc8.{step_of, eight_steps_of, crc_of, check_of}
 use Rattle.round.specs.Round.{goes}
 use Rattle.history.specs.Demand.{Linked, Orderly, TimeOfOne, Near, Taken, Fair}
-use Rattle.history.proofs.Held.{each-time-held}
-use Rattle.history.proofs.One.{each-time-near}
-use Rattle.history.proofs.Taken.{each-pair-taken}
-use Rattle.history_day.specs.Met.{HeldMet, PairMet, numbersIn}
+use Rattle.history.proofs.Held.{each_time_held}
+use Rattle.history.proofs.One.{each_time_near}
+use Rattle.history.proofs.Taken.{each_pair_taken}
+use Rattle.history_day.specs.Met.{HeldMet, PairMet, numbers_in}
 use Rattle.history_day.specs.Settings.{ms}
 use Rattle.history_day.specs.Day.{
-  dayLink,
+  day_link,
   day,
-  dayMoment,
-  dayNumbers,
-  copyFup5,
-  copySync5,
-  copiesBefore,
-  dayBase,
+  day_moment,
+  day_numbers,
+  copy_fup5,
+  copy_sync5,
+  copies_before,
+  day_base,
 }
-use Rattle.history_day.proofs.Tests.{linked-by, fair, all_fit, held-met, taken-met}
+use Rattle.history_day.proofs.Tests.{linked_by, fair, all_fit, held_met, taken_met}
 
-linked : Linked dayLink
-linked = linked-by _ (omega arith) refl refl refl refl refl refl
+linked : Linked day_link
+linked = linked_by _ (omega arith) refl refl refl refl refl refl
 
-fits : all_fit dayLink day ≡ true
-unfolding goes checkOf crcOf eightStepsOf step_of
+fits : all_fit day_link day ≡ true
+unfolding goes check_of crc_of eight_steps_of step_of
 fits = refl
 
-day-fair : Fair dayLink day
-day-fair = fair dayLink linked refl day fits
+day_fair : Fair day_link day
+day_fair = fair day_link linked refl day fits
 
-pub day-held : HeldMet dayLink day dayBase
-unfolding goes checkOf crcOf eightStepsOf step_of
-day-held =
-    record { fair = day-fair; exceed = record { follow-up = omega arith; confirmation = omega arith }; holds = refl }
+pub day_held : HeldMet day_link day day_base
+unfolding goes check_of crc_of eight_steps_of step_of
+day_held =
+    record { fair = day_fair; exceed = record { follow_up = omega arith; confirmation = omega arith }; holds = refl }
 
-orderly : Orderly dayLink dayMoment day
-unfolding goes checkOf crcOf eightStepsOf step_of
+orderly : Orderly day_link day_moment day
+unfolding goes check_of crc_of eight_steps_of step_of
 orderly =
     record {
-      under-way =
+      under_way =
           record {
             bytes = 0x20 ∷ 0x8E ∷ 0x56 ∷ 0x11 ∷ 0x00 ∷ 0x00 ∷ 0x07 ∷ 0xD6 ∷ [];
             at = ms 17000;
             time = record { 0 = 2006; 1 = 970000000 };
           }
           ∷ [];
-      copies = copyFup5 ∷ copySync5 ∷ copiesBefore;
+      copies = copy_fup5 ∷ copy_sync5 ∷ copies_before;
       all = refl;
       only = refl;
     }
 
-pub day-taken : PairMet dayLink day dayMoment [] copyFup5 copySync5 copiesBefore
+pub day_taken : PairMet day_link day day_moment [] copy_fup5 copy_sync5 copies_before
 unfolding orderly
-day-taken =
+day_taken =
     record {
-      fair = day-fair;
+      fair = day_fair;
       orderly = orderly;
       copies = refl;
-      is-fup = refl;
+      is_a_fup = refl;
       soon = omega arith;
     }
 
-pub day-numbers : numbersIn dayLink day ≡ dayNumbers
-unfolding goes checkOf crcOf eightStepsOf step_of
-day-numbers = refl
+pub day_numbers_lem : numbers_in day_link day ≡ day_numbers
+unfolding goes check_of crc_of eight_steps_of step_of
+day_numbers_lem = refl
 
 -- ---- the theorems, of this day
-pub day-of-one : TimeOfOne dayLink day dayBase
-day-of-one = held-met dayLink day dayBase day-held each-time-held
+pub day_of_one : TimeOfOne day_link day day_base
+day_of_one = held_met day_link day day_base day_held each_time_held
 
-pub day-near : Near dayLink dayBase day-of-one.sync
-day-near = each-time-near dayLink linked day day-fair.calls day-fair.never-fall dayBase day-of-one
+pub day_near : Near day_link day_base day_of_one.sync
+day_near = each_time_near day_link linked day day_fair.calls day_fair.never_fall day_base day_of_one
 
-pub day-pair : Taken dayLink dayMoment day copyFup5 copySync5 copiesBefore
-day-pair =
-    taken-met each-pair-taken dayLink day dayMoment [] copyFup5 copySync5 copiesBefore day-taken (omega arith)
+pub day_pair : Taken day_link day_moment day copy_fup5 copy_sync5 copies_before
+day_pair =
+    taken_met each_pair_taken day_link day day_moment [] copy_fup5 copy_sync5 copies_before day_taken (omega arith)

@@ -31,9 +31,9 @@ use mathlib.Core.List.{[], ◌∷◌}
 use native.Mathlib.Omega.{arith}
 use Rattle.clock.specs.declared.base.TimeBase.{TimeBase}
 use Rattle.round.specs.Round.{goes}
-use Rattle.history.specs.History.{Link, masterSettings, slaveSettings, onSlave, History}
+use Rattle.history.specs.History.{Link, master_settings, slave_settings, on_slave, History}
 use Rattle.history.specs.Demand.{Linked, Exceed, TimeOfOne, EachTimeHeld, Taken}
-use Rattle.history.proofs.Held.{each-time-held}
+use Rattle.history.proofs.Held.{each_time_held}
 use Rattle.history_day.specs.Met.{
   HeldMet,
   PairMet,
@@ -47,214 +47,214 @@ use Rattle.history_day.specs.Met.{
   AheadByC,
 }
 use Rattle.history_day.specs.Edges.{
-  followUpLink,
-  followUpEdge,
-  followUpBase,
-  confirmationLink,
-  confirmationEdge,
-  confirmationBase,
-  followUpWithinLink,
-  followUpWithinEdge,
-  followUpWithinBase,
-  confirmationWithinLink,
-  confirmationWithinEdge,
-  confirmationWithinBase,
-  anewLink,
-  anewDay,
-  anewHeld,
-  anewBase,
-  nearLink,
-  nearSync,
-  behindFup,
-  behindBefore,
-  behindDay,
-  behindBase,
-  aheadFup,
-  aheadBefore,
-  aheadDay,
-  aheadBase,
-  lossLink,
-  lossMoment,
-  lossSync,
-  lossFup,
-  lossEdge,
+  follow_up_link,
+  follow_up_edge,
+  follow_up_base,
+  confirmation_link,
+  confirmation_edge,
+  confirmation_base,
+  follow_up_within_link,
+  follow_up_within_edge,
+  follow_up_within_base,
+  confirmation_within_link,
+  confirmation_within_edge,
+  confirmation_within_base,
+  anew_link,
+  anew_day,
+  anew_held,
+  anew_base,
+  near_link,
+  near_sync,
+  behind_fup,
+  behind_before,
+  behind_day,
+  behind_base,
+  ahead_fup,
+  ahead_before,
+  ahead_day,
+  ahead_base,
+  loss_link,
+  loss_moment,
+  loss_sync,
+  loss_fup,
+  loss_edge,
 }
-use Rattle.history_day.proofs.Tests.{linked-by, fair, held-met, not-of-one, neverSet, never-set}
+use Rattle.history_day.proofs.Tests.{linked_by, fair, held_met, not_of_one, never_set, never_set_lem}
 
-pub under-exceed : EachTimeHeld → HeldUnder Exceed
-under-exceed each k exceed h fair b holds =
-    held-met k h b (record { fair = fair; exceed = exceed; holds = holds }) each
+pub under_exceed : EachTimeHeld → HeldUnder Exceed
+under_exceed each k exceed h fair b holds =
+    held_met k h b (record { fair = fair; exceed = exceed; holds = holds }) each
 
-pub wrong-under :
+pub wrong_under :
     (Condition : Link → Type 0) (k : Link) (h : History) (b : TimeBase) → Condition k → WrongHeld k h b →
     HeldUnder Condition → ⊥
-wrong-under Condition k h b met w each = w.wrong (each k met h w.fair b w.holds)
+wrong_under Condition k h b met w each = w.wrong (each k met h w.fair b w.holds)
 
 -- ---- E plus the follow-up time
-pub follow-up-equal :
-    followUpLink.e + (slaveSettings followUpLink).follow_up_time ≡ 16 * (masterSettings followUpLink).period
-follow-up-equal = refl
+pub follow_up_equal :
+    follow_up_link.e + (slave_settings follow_up_link).follow_up_time ≡ 16 * (master_settings follow_up_link).period
+follow_up_equal = refl
 
-follow-up-linked : Linked followUpLink
-follow-up-linked = linked-by _ (omega arith) refl refl refl refl refl refl
+follow_up_linked : Linked follow_up_link
+follow_up_linked = linked_by _ (omega arith) refl refl refl refl refl refl
 
-pub follow-up-wrong : WrongHeld followUpLink followUpEdge followUpBase
+pub follow_up_wrong : WrongHeld follow_up_link follow_up_edge follow_up_base
 unfolding goes
-follow-up-wrong =
-    let met = fair followUpLink follow-up-linked refl followUpEdge refl in
+follow_up_wrong =
+    let met = fair follow_up_link follow_up_linked refl follow_up_edge refl in
     record {
       fair = met;
       holds = refl;
-      wrong = not-of-one followUpLink followUpEdge followUpBase met.never-fall refl;
+      wrong = not_of_one follow_up_link follow_up_edge follow_up_base met.never_fall refl;
     }
 
-pub follow-up-exceeded : HeldUnder ReachFollowUp → ⊥
-follow-up-exceeded =
-    wrong-under ReachFollowUp followUpLink followUpEdge followUpBase
-    (record { follow-up = omega arith; confirmation = omega arith })
-    follow-up-wrong
+pub follow_up_exceeded : HeldUnder ReachFollowUp → ⊥
+follow_up_exceeded =
+    wrong_under ReachFollowUp follow_up_link follow_up_edge follow_up_base
+    (record { follow_up = omega arith; confirmation = omega arith })
+    follow_up_wrong
 
 -- ---- E plus the confirmation time
-pub confirmation-equal :
-    confirmationLink.e + (masterSettings confirmationLink).confirmation_time
-    ≡ 16 * (masterSettings confirmationLink).period
-confirmation-equal = refl
+pub confirmation_equal :
+    confirmation_link.e + (master_settings confirmation_link).confirmation_time
+    ≡ 16 * (master_settings confirmation_link).period
+confirmation_equal = refl
 
-confirmation-linked : Linked confirmationLink
-confirmation-linked = linked-by _ (omega arith) refl refl refl refl refl refl
+confirmation_linked : Linked confirmation_link
+confirmation_linked = linked_by _ (omega arith) refl refl refl refl refl refl
 
-pub confirmation-wrong : WrongHeld confirmationLink confirmationEdge confirmationBase
+pub confirmation_wrong : WrongHeld confirmation_link confirmation_edge confirmation_base
 unfolding goes
-confirmation-wrong =
-    let met = fair confirmationLink confirmation-linked refl confirmationEdge refl in
+confirmation_wrong =
+    let met = fair confirmation_link confirmation_linked refl confirmation_edge refl in
     record {
       fair = met;
       holds = refl;
-      wrong = not-of-one confirmationLink confirmationEdge confirmationBase met.never-fall refl;
+      wrong = not_of_one confirmation_link confirmation_edge confirmation_base met.never_fall refl;
     }
 
-pub confirmation-exceeded : HeldUnder ReachConfirmation → ⊥
-confirmation-exceeded =
-    wrong-under ReachConfirmation confirmationLink confirmationEdge confirmationBase
-    (record { follow-up = omega arith; confirmation = omega arith })
-    confirmation-wrong
+pub confirmation_exceeded : HeldUnder ReachConfirmation → ⊥
+confirmation_exceeded =
+    wrong_under ReachConfirmation confirmation_link confirmation_edge confirmation_base
+    (record { follow_up = omega arith; confirmation = omega arith })
+    confirmation_wrong
 
 -- ---- within one second
-pub follow-up-within-equal :
-    followUpWithinLink.e + (slaveSettings followUpWithinLink).follow_up_time
-    ≡ 16 * (masterSettings followUpWithinLink).period
-follow-up-within-equal = refl
+pub follow_up_within_equal :
+    follow_up_within_link.e + (slave_settings follow_up_within_link).follow_up_time
+    ≡ 16 * (master_settings follow_up_within_link).period
+follow_up_within_equal = refl
 
-follow-up-within-linked : Linked followUpWithinLink
-follow-up-within-linked = linked-by _ (omega arith) refl refl refl refl refl refl
+follow_up_within_linked : Linked follow_up_within_link
+follow_up_within_linked = linked_by _ (omega arith) refl refl refl refl refl refl
 
-pub follow-up-within-wrong : WrongHeld followUpWithinLink followUpWithinEdge followUpWithinBase
+pub follow_up_within_wrong : WrongHeld follow_up_within_link follow_up_within_edge follow_up_within_base
 unfolding goes
-follow-up-within-wrong =
-    let met = fair followUpWithinLink follow-up-within-linked refl followUpWithinEdge refl in
+follow_up_within_wrong =
+    let met = fair follow_up_within_link follow_up_within_linked refl follow_up_within_edge refl in
     record {
       fair = met;
       holds = refl;
-      wrong = not-of-one followUpWithinLink followUpWithinEdge followUpWithinBase met.never-fall refl;
+      wrong = not_of_one follow_up_within_link follow_up_within_edge follow_up_within_base met.never_fall refl;
     }
 
-pub follow-up-within-exceeded : HeldUnder (Within ReachFollowUp) → ⊥
-follow-up-within-exceeded =
-    wrong-under (Within ReachFollowUp) followUpWithinLink followUpWithinEdge followUpWithinBase
-    (record { met = record { follow-up = omega arith; confirmation = omega arith }; within = omega arith })
-    follow-up-within-wrong
+pub follow_up_within_exceeded : HeldUnder (Within ReachFollowUp) → ⊥
+follow_up_within_exceeded =
+    wrong_under (Within ReachFollowUp) follow_up_within_link follow_up_within_edge follow_up_within_base
+    (record { met = record { follow_up = omega arith; confirmation = omega arith }; within = omega arith })
+    follow_up_within_wrong
 
-pub confirmation-within-equal :
-    confirmationWithinLink.e + (masterSettings confirmationWithinLink).confirmation_time
-    ≡ 16 * (masterSettings confirmationWithinLink).period
-confirmation-within-equal = refl
+pub confirmation_within_equal :
+    confirmation_within_link.e + (master_settings confirmation_within_link).confirmation_time
+    ≡ 16 * (master_settings confirmation_within_link).period
+confirmation_within_equal = refl
 
-confirmation-within-linked : Linked confirmationWithinLink
-confirmation-within-linked = linked-by _ (omega arith) refl refl refl refl refl refl
+confirmation_within_linked : Linked confirmation_within_link
+confirmation_within_linked = linked_by _ (omega arith) refl refl refl refl refl refl
 
-pub confirmation-within-wrong : WrongHeld confirmationWithinLink confirmationWithinEdge confirmationWithinBase
+pub confirmation_within_wrong : WrongHeld confirmation_within_link confirmation_within_edge confirmation_within_base
 unfolding goes
-confirmation-within-wrong =
-    let met = fair confirmationWithinLink confirmation-within-linked refl confirmationWithinEdge refl in
+confirmation_within_wrong =
+    let met = fair confirmation_within_link confirmation_within_linked refl confirmation_within_edge refl in
     record {
       fair = met;
       holds = refl;
-      wrong = not-of-one confirmationWithinLink confirmationWithinEdge confirmationWithinBase met.never-fall refl;
+      wrong = not_of_one confirmation_within_link confirmation_within_edge confirmation_within_base met.never_fall refl;
     }
 
-pub confirmation-within-exceeded : HeldUnder (Within ReachConfirmation) → ⊥
-confirmation-within-exceeded =
-    wrong-under (Within ReachConfirmation) confirmationWithinLink confirmationWithinEdge confirmationWithinBase
-    (record { met = record { follow-up = omega arith; confirmation = omega arith }; within = omega arith })
-    confirmation-within-wrong
+pub confirmation_within_exceeded : HeldUnder (Within ReachConfirmation) → ⊥
+confirmation_within_exceeded =
+    wrong_under (Within ReachConfirmation) confirmation_within_link confirmation_within_edge confirmation_within_base
+    (record { met = record { follow_up = omega arith; confirmation = omega arith }; within = omega arith })
+    confirmation_within_wrong
 
 -- ---- a time tied anew
-anew-linked : Linked anewLink
-anew-linked = linked-by _ (omega arith) refl refl refl refl refl refl
+anew_linked : Linked anew_link
+anew_linked = linked_by _ (omega arith) refl refl refl refl refl refl
 
-pub anew-met : HeldMet anewLink anewDay anewHeld
+pub anew_met : HeldMet anew_link anew_day anew_held
 unfolding goes
-anew-met =
+anew_met =
     record {
-      fair = fair anewLink anew-linked refl anewDay refl;
-      exceed = record { follow-up = omega arith; confirmation = omega arith };
+      fair = fair anew_link anew_linked refl anew_day refl;
+      exceed = record { follow_up = omega arith; confirmation = omega arith };
       holds = refl;
     }
 
-pub anew-of-one : TimeOfOne anewLink anewDay anewHeld
-anew-of-one = held-met anewLink anewDay anewHeld anew-met each-time-held
+pub anew_of_one : TimeOfOne anew_link anew_day anew_held
+anew_of_one = held_met anew_link anew_day anew_held anew_met each_time_held
 
-pub anew-wrong : TimeOfOne anewLink anewDay anewBase → ⊥
+pub anew_wrong : TimeOfOne anew_link anew_day anew_base → ⊥
 unfolding goes
-anew-wrong = not-of-one anewLink anewDay anewBase anew-met.fair.never-fall refl
+anew_wrong = not_of_one anew_link anew_day anew_base anew_met.fair.never_fall refl
 
 -- ---- how far a time is off
-near-linked : Linked nearLink
-near-linked = linked-by _ (omega arith) refl refl refl refl refl refl
+near_linked : Linked near_link
+near_linked = linked_by _ (omega arith) refl refl refl refl refl refl
 
-near-exceed : Exceed nearLink
-near-exceed = record { follow-up = omega arith; confirmation = omega arith }
+near_exceed : Exceed near_link
+near_exceed = record { follow_up = omega arith; confirmation = omega arith }
 
-pub behind-by-e : BehindByE nearLink behindDay behindBase
+pub behind_by_e : BehindByE near_link behind_day behind_base
 unfolding goes
-behind-by-e =
+behind_by_e =
     record {
-      met = record { fair = fair nearLink near-linked refl behindDay refl; exceed = near-exceed; holds = refl };
+      met = record { fair = fair near_link near_linked refl behind_day refl; exceed = near_exceed; holds = refl };
       one =
           record {
-            sync = nearSync;
-            fup = behindFup;
+            sync = near_sync;
+            fup = behind_fup;
             newer = [];
             older = [];
             sent = refl;
-            is-sync = refl;
-            is-fup = refl;
+            is_a_sync = refl;
+            is_a_fup = refl;
             time = refl;
             after = _ ∷ [];
-            before = behindBefore;
+            before = behind_before;
             copy = refl;
             copied = record { sent = inr (inl refl); same = refl; soon = omega arith };
           };
       behind = refl;
     }
 
-pub ahead-by-c : AheadByC nearLink aheadDay aheadBase
+pub ahead_by_c : AheadByC near_link ahead_day ahead_base
 unfolding goes
-ahead-by-c =
+ahead_by_c =
     record {
-      met = record { fair = fair nearLink near-linked refl aheadDay refl; exceed = near-exceed; holds = refl };
+      met = record { fair = fair near_link near_linked refl ahead_day refl; exceed = near_exceed; holds = refl };
       one =
           record {
-            sync = nearSync;
-            fup = aheadFup;
+            sync = near_sync;
+            fup = ahead_fup;
             newer = [];
             older = [];
             sent = refl;
-            is-sync = refl;
-            is-fup = refl;
+            is_a_sync = refl;
+            is_a_fup = refl;
             time = refl;
             after = _ ∷ _ ∷ [];
-            before = aheadBefore;
+            before = ahead_before;
             copy = refl;
             copied = record { sent = inl refl; same = refl; soon = omega arith };
           };
@@ -262,32 +262,32 @@ ahead-by-c =
     }
 
 -- ---- the loss time
-loss-linked : Linked lossLink
-loss-linked = linked-by _ (omega arith) refl refl refl refl refl refl
+loss_linked : Linked loss_link
+loss_linked = linked_by _ (omega arith) refl refl refl refl refl refl
 
-pub loss-met : PairMet lossLink lossEdge lossMoment [] lossFup lossSync []
+pub loss_met : PairMet loss_link loss_edge loss_moment [] loss_fup loss_sync []
 unfolding goes
-loss-met =
+loss_met =
     record {
-      fair = fair lossLink loss-linked refl lossEdge refl;
-      orderly = record { under-way = []; copies = lossFup ∷ lossSync ∷ []; all = refl; only = refl };
+      fair = fair loss_link loss_linked refl loss_edge refl;
+      orderly = record { under_way = []; copies = loss_fup ∷ loss_sync ∷ []; all = refl; only = refl };
       copies = refl;
-      is-fup = refl;
+      is_a_fup = refl;
       soon = omega arith;
     }
 
-pub loss-one-earlier :
-    lossMoment + (slaveSettings lossLink).loss_time ≡ onSlave lossLink lossSync.at + 1
-loss-one-earlier = refl
+pub loss_one_earlier :
+    loss_moment + (slave_settings loss_link).loss_time ≡ on_slave loss_link loss_sync.at + 1
+loss_one_earlier = refl
 
-loss-never-set : neverSet lossLink lossEdge ≡ true
+loss_never_set : never_set loss_link loss_edge ≡ true
 unfolding goes
-loss-never-set = refl
+loss_never_set = refl
 
-pub loss-not-taken : Taken lossLink lossMoment lossEdge lossFup lossSync [] → ⊥
-loss-not-taken t =
-    never-set lossLink t.after _ t.before _ (ap (neverSet lossLink) (sym t.call) ∙ loss-never-set) t.base
+pub loss_not_taken : Taken loss_link loss_moment loss_edge loss_fup loss_sync [] → ⊥
+loss_not_taken t =
+    never_set_lem loss_link t.after _ t.before _ (ap (never_set loss_link) (sym t.call) ∙ loss_never_set) t.base
 
-pub loss-exceeded : TakenFrom 1 → ⊥
-loss-exceeded each =
-    loss-not-taken (each lossLink lossEdge lossMoment [] lossFup lossSync [] loss-met (omega (arith, loss-one-earlier)))
+pub loss_exceeded : TakenFrom 1 → ⊥
+loss_exceeded each =
+    loss_not_taken (each loss_link loss_edge loss_moment [] loss_fup loss_sync [] loss_met (omega (arith, loss_one_earlier)))

@@ -20,147 +20,147 @@ use mathlib.Core.List.{[], ◌∷◌}
 use native.Mathlib.Omega.{arith}
 use Rattle.clock.specs.declared.base.Held.TheVariants.{Set}
 use Rattle.round.specs.Round.{goes}
-use Rattle.history.specs.History.{slaveRecord}
+use Rattle.history.specs.History.{slave_record}
 use Rattle.history.specs.Demand.{Linked, Orderly, InRow, Taken, Spaced}
-use Rattle.history.proofs.Taken.{each-pair-taken}
-use Rattle.history.proofs.Spaced.{each-spaced-taken}
-use Rattle.history_day.specs.Met.{PairMet, atMostL, RowBy, OneSyncFewer, AnyDistance, SpacedBy, numbersIn}
+use Rattle.history.proofs.Taken.{each_pair_taken}
+use Rattle.history.proofs.Spaced.{each_spaced_taken}
+use Rattle.history_day.specs.Met.{PairMet, at_most_l, RowBy, OneSyncFewer, AnyDistance, SpacedBy, numbers_in}
 use Rattle.history_day.specs.Row.{
-  twoLink,
-  twoMoment,
-  firstSync,
-  secondSync,
-  secondFup,
-  thirdSync,
-  thirdFup,
-  twoBegun,
-  twoDay,
-  begunNumbers,
-  twoNumbers,
-  twoBase,
-  apartLink,
-  apartMoment,
+  two_link,
+  two_moment,
+  first_sync,
+  second_sync,
+  second_fup,
+  third_sync,
+  third_fup,
+  two_begun,
+  two_day,
+  begun_numbers,
+  two_numbers,
+  two_base,
+  apart_link,
+  apart_moment,
 }
-use Rattle.history_day.proofs.Tests.{linked-by, fair, taken-met, taken-spaced, neverSet, never-set}
+use Rattle.history_day.proofs.Tests.{linked_by, fair, taken_met, taken_spaced, never_set, never_set_lem}
 
 -- ---- H 2: the third pair
-linked : Linked twoLink
-linked = linked-by _ (omega arith) refl refl refl refl refl refl
+linked : Linked two_link
+linked = linked_by _ (omega arith) refl refl refl refl refl refl
 
-orderly : Orderly twoLink twoMoment twoDay
+orderly : Orderly two_link two_moment two_day
 unfolding goes
 orderly =
     record {
-      under-way = [];
-      copies = thirdFup ∷ thirdSync ∷ secondFup ∷ secondSync ∷ firstSync ∷ [];
+      under_way = [];
+      copies = third_fup ∷ third_sync ∷ second_fup ∷ second_sync ∷ first_sync ∷ [];
       all = refl;
       only = refl;
     }
 
-pub row-met :
-    PairMet twoLink twoDay twoMoment [] thirdFup thirdSync (secondFup ∷ secondSync ∷ firstSync ∷ [])
+pub row_met :
+    PairMet two_link two_day two_moment [] third_fup third_sync (second_fup ∷ second_sync ∷ first_sync ∷ [])
 unfolding goes orderly
-row-met =
+row_met =
     record {
-      fair = fair twoLink linked refl twoDay refl;
+      fair = fair two_link linked refl two_day refl;
       orderly = orderly;
       copies = refl;
-      is-fup = refl;
+      is_a_fup = refl;
       soon = omega arith;
     }
 
-in_row : InRow twoLink twoMoment 2 thirdSync (secondFup ∷ secondSync ∷ firstSync ∷ [])
+in_row : InRow two_link two_moment 2 third_sync (second_fup ∷ second_sync ∷ first_sync ∷ [])
 in_row = (omega arith, (omega arith, omega arith))
 
-pub row-taken : Taken twoLink twoMoment twoDay thirdFup thirdSync (secondFup ∷ secondSync ∷ firstSync ∷ [])
-row-taken = taken-met each-pair-taken twoLink twoDay twoMoment [] thirdFup thirdSync _ row-met in_row
+pub row_taken : Taken two_link two_moment two_day third_fup third_sync (second_fup ∷ second_sync ∷ first_sync ∷ [])
+row_taken = taken_met each_pair_taken two_link two_day two_moment [] third_fup third_sync _ row_met in_row
 
-pub row-spaced : Taken twoLink twoMoment twoDay thirdFup thirdSync (secondFup ∷ secondSync ∷ firstSync ∷ [])
-unfolding orderly row-met
-row-spaced =
-    taken-spaced each-spaced-taken twoLink twoDay twoMoment [] thirdFup thirdSync _ row-met
+pub row_spaced : Taken two_link two_moment two_day third_fup third_sync (second_fup ∷ second_sync ∷ first_sync ∷ [])
+unfolding orderly row_met
+row_spaced =
+    taken_spaced each_spaced_taken two_link two_day two_moment [] third_fup third_sync _ row_met
     (tt, (omega arith, (tt, (omega arith, (tt, tt)))))
     (omega arith)
     (omega arith)
 
-pub row-numbers : numbersIn twoLink twoDay ≡ twoNumbers
+pub row_numbers : numbers_in two_link two_day ≡ two_numbers
 unfolding goes
-row-numbers = refl
+row_numbers = refl
 
-pub row-holds : (slaveRecord twoLink twoDay).base ≡ Set twoBase
+pub row_holds : (slave_record two_link two_day).base ≡ Set two_base
 unfolding goes
-row-holds = refl
+row_holds = refl
 
 -- ---- one SYNC fewer: the second pair
-pub row-one-fewer : PairMet twoLink twoBegun twoMoment [] secondFup secondSync (firstSync ∷ [])
+pub row_one_fewer : PairMet two_link two_begun two_moment [] second_fup second_sync (first_sync ∷ [])
 unfolding goes
-row-one-fewer =
+row_one_fewer =
     record {
-      fair = fair twoLink linked refl twoBegun refl;
+      fair = fair two_link linked refl two_begun refl;
       orderly =
-          record { under-way = []; copies = secondFup ∷ secondSync ∷ firstSync ∷ []; all = refl; only = refl };
+          record { under_way = []; copies = second_fup ∷ second_sync ∷ first_sync ∷ []; all = refl; only = refl };
       copies = refl;
-      is-fup = refl;
+      is_a_fup = refl;
       soon = omega arith;
     }
 
-fewer-never : neverSet twoLink twoBegun ≡ true
+fewer_never : never_set two_link two_begun ≡ true
 unfolding goes
-fewer-never = refl
+fewer_never = refl
 
-pub fewer-not-taken : Taken twoLink twoMoment twoBegun secondFup secondSync (firstSync ∷ []) → ⊥
-fewer-not-taken t =
-    never-set twoLink t.after _ t.before _ (ap (neverSet twoLink) (sym t.call) ∙ fewer-never) t.base
+pub fewer_not_taken : Taken two_link two_moment two_begun second_fup second_sync (first_sync ∷ []) → ⊥
+fewer_not_taken t =
+    never_set_lem two_link t.after _ t.before _ (ap (never_set two_link) (sym t.call) ∙ fewer_never) t.base
 
-pub one-sync-fewer : OneSyncFewer → ⊥
-one-sync-fewer each =
-    let row : RowBy 0 atMostL twoLink twoMoment 1 secondSync (firstSync ∷ []) = (omega arith, omega arith) in
-    fewer-not-taken (each twoLink twoBegun twoMoment [] secondFup secondSync (firstSync ∷ []) row-one-fewer row)
+pub one_sync_fewer : OneSyncFewer → ⊥
+one_sync_fewer each =
+    let row : RowBy 0 at_most_l two_link two_moment 1 second_sync (first_sync ∷ []) = (omega arith, omega arith) in
+    fewer_not_taken (each two_link two_begun two_moment [] second_fup second_sync (first_sync ∷ []) row_one_fewer row)
 
-pub one-late-fewer : SpacedBy 1 Spaced → ⊥
-unfolding row-one-fewer
-one-late-fewer each =
-    fewer-not-taken
-    (each twoLink twoBegun twoMoment [] secondFup secondSync (firstSync ∷ []) row-one-fewer
+pub one_late_fewer : SpacedBy 1 Spaced → ⊥
+unfolding row_one_fewer
+one_late_fewer each =
+    fewer_not_taken
+    (each two_link two_begun two_moment [] second_fup second_sync (first_sync ∷ []) row_one_fewer
     (tt, (omega arith, (tt, tt)))
     (omega arith)
     (omega arith))
 
 -- ---- SYNCs more than L apart
-apart-linked : Linked apartLink
-apart-linked = linked-by _ (omega arith) refl refl refl refl refl refl
+apart_linked : Linked apart_link
+apart_linked = linked_by _ (omega arith) refl refl refl refl refl refl
 
-pub row_apart : PairMet apartLink twoBegun apartMoment [] secondFup secondSync (firstSync ∷ [])
+pub row_apart : PairMet apart_link two_begun apart_moment [] second_fup second_sync (first_sync ∷ [])
 unfolding goes
 row_apart =
     record {
-      fair = fair apartLink apart-linked refl twoBegun refl;
+      fair = fair apart_link apart_linked refl two_begun refl;
       orderly =
-          record { under-way = []; copies = secondFup ∷ secondSync ∷ firstSync ∷ []; all = refl; only = refl };
+          record { under_way = []; copies = second_fup ∷ second_sync ∷ first_sync ∷ []; all = refl; only = refl };
       copies = refl;
-      is-fup = refl;
+      is_a_fup = refl;
       soon = omega arith;
     }
 
-pub apart-numbers : numbersIn apartLink twoBegun ≡ begunNumbers
+pub apart_numbers : numbers_in apart_link two_begun ≡ begun_numbers
 unfolding goes
-apart-numbers = refl
+apart_numbers = refl
 
-apart-never : neverSet apartLink twoBegun ≡ true
+apart_never : never_set apart_link two_begun ≡ true
 unfolding goes
-apart-never = refl
+apart_never = refl
 
-pub apart-not-taken : Taken apartLink apartMoment twoBegun secondFup secondSync (firstSync ∷ []) → ⊥
-apart-not-taken t =
-    never-set apartLink t.after _ t.before _ (ap (neverSet apartLink) (sym t.call) ∙ apart-never) t.base
+pub apart_not_taken : Taken apart_link apart_moment two_begun second_fup second_sync (first_sync ∷ []) → ⊥
+apart_not_taken t =
+    never_set_lem apart_link t.after _ t.before _ (ap (never_set apart_link) (sym t.call) ∙ apart_never) t.base
 
-pub any-distance : AnyDistance → ⊥
-any-distance each =
-    apart-not-taken
-    (each apartLink twoBegun apartMoment [] secondFup secondSync (firstSync ∷ []) row_apart (tt, omega arith))
+pub any_distance : AnyDistance → ⊥
+any_distance each =
+    apart_not_taken
+    (each apart_link two_begun apart_moment [] second_fup second_sync (first_sync ∷ []) row_apart (tt, omega arith))
 
-pub not-spaced : SpacedBy 0 (λ k copies. Unit {0}) → ⊥
-not-spaced each =
-    apart-not-taken
-    (each apartLink twoBegun apartMoment [] secondFup secondSync (firstSync ∷ []) row_apart tt (omega arith)
+pub not_spaced : SpacedBy 0 (λ k copies. Unit {0}) → ⊥
+not_spaced each =
+    apart_not_taken
+    (each apart_link two_begun apart_moment [] second_fup second_sync (first_sync ∷ []) row_apart tt (omega arith)
     (omega arith))

@@ -24,143 +24,143 @@ use Rattle.clock.specs.declared.base.Held.{Held}
 use Rattle.clock.specs.declared.base.Held.TheVariants.{Unset, Set}
 use Rattle.clock.specs.Reading.{span_of}
 use Rattle.round.specs.Round.{goes}
-use Rattle.history.specs.History.{slaveSettings, slaveRecord, sentIn}
-use Rattle.history.specs.Demand.{Linked, sentSince, sendings, Orderly, TimeOfOne, Near, Taken, Fair}
-use Rattle.history.proofs.Held.{each-time-held}
-use Rattle.history.proofs.One.{each-time-near}
-use Rattle.history.proofs.Taken.{each-pair-taken}
-use Rattle.history_day.specs.Met.{HeldMet, PairMet, TakenUntil, numbersIn}
+use Rattle.history.specs.History.{slave_settings, slave_record, sent_in}
+use Rattle.history.specs.Demand.{Linked, sent_since, sendings, Orderly, TimeOfOne, Near, Taken, Fair}
+use Rattle.history.proofs.Held.{each_time_held}
+use Rattle.history.proofs.One.{each_time_near}
+use Rattle.history.proofs.Taken.{each_pair_taken}
+use Rattle.history_day.specs.Met.{HeldMet, PairMet, TakenUntil, numbers_in}
 use Rattle.history_day.specs.Second.{
-  secondLink,
-  copySync,
-  copyFup,
-  lateFup,
+  second_link,
+  copy_sync,
+  copy_fup,
+  late_fup,
   copies,
   arriving,
   second,
-  secondMoment,
-  secondCopies,
-  copiesAfter,
-  secondNumbers,
-  secondBase,
-  verdictsIn,
-  secondVerdicts,
+  second_moment,
+  second_copies,
+  copies_after,
+  second_numbers,
+  second_base,
+  verdicts_in,
+  second_verdicts,
   NextWithin,
 }
 use Rattle.history_day.proofs.Tests.{
-  linked-by,
+  linked_by,
   fair,
   all_fit,
+  all_same_lem,
   all_same,
-  allSame,
-  held-met,
-  taken-met,
-  everyBase,
-  every-base,
+  held_met,
+  taken_met,
+  every_base,
+  every_base_lem,
 }
 
-linked : Linked secondLink
-linked = linked-by _ (omega arith) refl refl refl refl refl refl
+linked : Linked second_link
+linked = linked_by _ (omega arith) refl refl refl refl refl refl
 
-fits : all_fit secondLink second ≡ true
+fits : all_fit second_link second ≡ true
 unfolding goes
 fits = refl
 
-second-fair : Fair secondLink second
-second-fair = fair secondLink linked refl second fits
+second_fair : Fair second_link second
+second_fair = fair second_link linked refl second fits
 
-pub second-held : HeldMet secondLink second secondBase
+pub second_held : HeldMet second_link second second_base
 unfolding goes
-second-held =
+second_held =
     record {
-      fair = second-fair;
-      exceed = record { follow-up = omega arith; confirmation = omega arith };
+      fair = second_fair;
+      exceed = record { follow_up = omega arith; confirmation = omega arith };
       holds = refl;
     }
 
-sent-all : allSame (sentSince secondLink secondMoment (sentIn secondLink second)) (sendings secondCopies) ≡ true
+sent_all : all_same (sent_since second_link second_moment (sent_in second_link second)) (sendings second_copies) ≡ true
 unfolding goes
-sent-all = refl
+sent_all = refl
 
-orderly : Orderly secondLink secondMoment second
+orderly : Orderly second_link second_moment second
 orderly =
     record {
-      under-way = [];
-      copies = secondCopies;
-      all = all_same (sentSince secondLink secondMoment (sentIn secondLink second)) (sendings secondCopies) sent-all;
+      under_way = [];
+      copies = second_copies;
+      all = all_same_lem (sent_since second_link second_moment (sent_in second_link second)) (sendings second_copies) sent_all;
       only = refl;
     }
 
-pub second-taken :
-    PairMet secondLink second secondMoment copiesAfter (copyFup 16) (copySync 16) (copies 16)
+pub second_taken :
+    PairMet second_link second second_moment copies_after (copy_fup 16) (copy_sync 16) (copies 16)
 unfolding orderly
-second-taken =
+second_taken =
     record {
-      fair = second-fair;
+      fair = second_fair;
       orderly = orderly;
       copies = refl;
-      is-fup = refl;
+      is_a_fup = refl;
       soon = omega arith;
     }
 
-pub second-numbers : numbersIn secondLink second ≡ secondNumbers
+pub second_numbers_lem : numbers_in second_link second ≡ second_numbers
 unfolding goes
-second-numbers = refl
+second_numbers_lem = refl
 
-pub second-updates : (slaveRecord secondLink second).updates ≡ 18
+pub second_updates : (slave_record second_link second).updates ≡ 18
 unfolding goes
-second-updates = refl
+second_updates = refl
 
-pub second-same : (copySync 16).of.bytes ≡ (copySync 0).of.bytes
-second-same = refl
+pub second_same : (copy_sync 16).of.bytes ≡ (copy_sync 0).of.bytes
+second_same = refl
 
-pub second-verdicts : verdictsIn secondLink second ≡ secondVerdicts
+pub second_verdicts_lem : verdicts_in second_link second ≡ second_verdicts
 unfolding goes
-second-verdicts = refl
+second_verdicts_lem = refl
 
-pub second-wrap : NextWithin secondLink (arriving 12) 15 0 (copySync 15).at (copySync 16)
+pub second_wrap : NextWithin second_link (arriving 12) 15 0 (copy_sync 15).at (copy_sync 16)
 unfolding goes
-second-wrap = record { seen = refl; within = omega arith; next = refl }
+second_wrap = record { seen = refl; within = omega arith; next = refl }
 
 -- ---- the theorems, of this day
-pub second-of-one : TimeOfOne secondLink second secondBase
-second-of-one = held-met secondLink second secondBase second-held each-time-held
+pub second_of_one : TimeOfOne second_link second second_base
+second_of_one = held_met second_link second second_base second_held each_time_held
 
-pub second-near : Near secondLink secondBase second-of-one.sync
-second-near =
-    each-time-near secondLink linked second second-fair.calls second-fair.never-fall secondBase second-of-one
+pub second_near : Near second_link second_base second_of_one.sync
+second_near =
+    each_time_near second_link linked second second_fair.calls second_fair.never_fall second_base second_of_one
 
-pub second-pair : Taken secondLink secondMoment second (copyFup 16) (copySync 16) (copies 16)
-second-pair =
-    taken-met each-pair-taken secondLink second secondMoment copiesAfter (copyFup 16) (copySync 16) (copies 16)
-    second-taken
+pub second_pair : Taken second_link second_moment second (copy_fup 16) (copy_sync 16) (copies 16)
+second_pair =
+    taken_met each_pair_taken second_link second second_moment copies_after (copy_fup 16) (copy_sync 16) (copies 16)
+    second_taken
     (omega arith)
 
 -- ---- the late FUP
-pub late-by-one :
-    span_of (copySync 18).at lateFup.at ≡ (slaveSettings secondLink).follow_up_time + 1
-late-by-one = refl
+pub late_by_one :
+    span_of (copy_sync 18).at late_fup.at ≡ (slave_settings second_link).follow_up_time + 1
+late_by_one = refl
 
-abbrev isNotAt : VirtualLocalTime → Held → Bool
-isNotAt t Unset = true
-isNotAt t (Set b) = not (eqb b.at.0 t.0)
+abbrev is_not_at : VirtualLocalTime → Held → Bool
+is_not_at t Unset = true
+is_not_at t (Set b) = not (eqb b.at.0 t.0)
 
-late-never : everyBase (isNotAt (copySync 18).at) secondLink second ≡ true
+late_never : every_base (is_not_at (copy_sync 18).at) second_link second ≡ true
 unfolding goes
-late-never = refl
+late_never = refl
 
-pub late-not-taken : Taken secondLink secondMoment second lateFup (copySync 18) (copies 18) → ⊥
-late-not-taken t =
-    let test = isNotAt (copySync 18).at in
+pub late_not_taken : Taken second_link second_moment second late_fup (copy_sync 18) (copies 18) → ⊥
+late_not_taken t =
+    let test = is_not_at (copy_sync 18).at in
     false≢true
     (ap test (sym t.base)
-    ∙ every-base test secondLink t.after _ t.before
-    (ap (everyBase test secondLink) (sym t.call) ∙ late-never))
+    ∙ every_base_lem test second_link t.after _ t.before
+    (ap (every_base test second_link) (sym t.call) ∙ late_never))
 
-pub late-exceeded : TakenUntil 1 → ⊥
+pub late_exceeded : TakenUntil 1 → ⊥
 unfolding orderly
-late-exceeded each =
-    late-not-taken
-    (each secondLink second second-fair secondMoment orderly [] (copies 18) lateFup (copySync 18) refl refl
+late_exceeded each =
+    late_not_taken
+    (each second_link second second_fair second_moment orderly [] (copies 18) late_fup (copy_sync 18) refl refl
     (omega arith)
     (omega arith))

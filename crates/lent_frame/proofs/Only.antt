@@ -5,20 +5,20 @@ use Prim.Native.Nat.{ℕ}
 use mathlib.Core.Path.{◌≡◌, sym, ◌∙◌}
 use mathlib.Core.List.{List}
 use Rattle.promise.specs.Only.{OnlyOne}
-use Rattle.promise.proofs.Laws.{equation-only}
+use Rattle.promise.proofs.Laws.{equation_only}
 use Rattle.clock.specs.declared.reading.VirtualLocalTime.{VirtualLocalTime}
 use Rattle.domain.specs.declared.Domain.{Domain}
 use Rattle.call_frame.specs.declared.FrameCall.{FrameCall}
-use Rattle.call_frame.specs.FrameCall.{frameCallOf}
+use Rattle.call_frame.specs.FrameCall.{frame_call_of}
 use Rattle.lent_frame.specs.declared.LentFrame.{LentFrame}
 use Rattle.lent_frame.specs.Lent.{TakenOn}
 
-pub frame-on-only :
+pub frame_on_only :
     (d : Domain) (kept t : VirtualLocalTime) (bytes : List ℕ) →
     OnlyOne (λ (r : LentFrame × Domain). TakenOn d kept t bytes r.0 r.1)
-frame-on-only d kept t bytes x y p q = λ i. ((p.call ∙ sym q.call) i, (p.domain ∙ sym q.domain) i)
+frame_on_only d kept t bytes x y p q = λ i. ((p.call ∙ sym q.call) i, (p.domain ∙ sym q.domain) i)
 
-pub frame-lent-only :
+pub frame_lent_only :
     (d : Domain) (kept t : VirtualLocalTime) (bytes : List ℕ) →
-    OnlyOne (λ (r : FrameCall). r ≡ frameCallOf d kept t bytes)
-frame-lent-only d kept t bytes = equation-only _
+    OnlyOne (λ (r : FrameCall). r ≡ frame_call_of d kept t bytes)
+frame_lent_only d kept t bytes = equation_only _

@@ -184,11 +184,11 @@ rooms (e ∷ E) Γ = rooms E (‵ (froom e.0 e.1 0) ∷ ‵ (fdies e.0 e.1) ∷ 
 abbrev pub bytes : ℕ → Lft → RattleType
 bytes n κ = ShrSlice (named n) κ u8
 
-abbrev pub bytes-laid : ℕ → Ty
-bytes-laid n = slice_ty (ty_ref (named n) imm (ty_int w8))
+abbrev pub bytes_laid : ℕ → Ty
+bytes_laid n = slice_ty (ty_ref (named n) imm (ty_int w8))
 
-abbrev pub bytes-val : Bor (List ℕ) → Val
-bytes-val s = slice_val s.ref_ptr (length s.now)
+abbrev pub bytes_val : Bor (List ℕ) → Val
+bytes_val s = slice_val s.ref_ptr (length s.now)
 
 abbrev pub BytesKnown : Bor (List ℕ) → ℕ → Lft → Type 0
 BytesKnown s n κ = Is (bytes n κ) s (shr_slice_vals s)
@@ -196,11 +196,11 @@ BytesKnown s n κ = Is (bytes n κ) s (shr_slice_vals s)
 abbrev pub BytesOwned : Bor (List ℕ) → ℕ → Lft → Fml
 BytesOwned s n κ = (bytes n κ).own s (shr_slice_vals s)
 
-pub bytes-typed :
+pub bytes_typed :
     {M : Type 1} {𝓤 : Ura M} →
     (𝓛 : Logic 𝓤) → (s : Bor (List ℕ)) (n : ℕ) (κ : Lft) → BytesKnown s n κ →
-    Holds (has_ty (bytes-laid n) (bytes-val s)) × WT (bytes-val s)
-bytes-typed {𝓤 = 𝓤} 𝓛 s n κ is =
+    Holds (has_ty (bytes_laid n) (bytes_val s)) × WT (bytes_val s)
+bytes_typed {𝓤 = 𝓤} 𝓛 s n κ is =
     ((shr_slice_Lawful 𝓛 (named n) κ u8).typed s (shr_slice_vals s) is).0
 
 -- ---- the rest of the parameters: two readings k and t, and the bytes
@@ -216,45 +216,45 @@ RestVals = List Val × (List Val × (List Val × Unit {0}))
 abbrev pub RestLast : Type 0
 RestLast = Unit {0} × (Unit {0} × (Unit {0} × Unit {0}))
 
-abbrev pub rest-last : RestLast
-rest-last = (tt, (tt, (tt, tt)))
+abbrev pub rest_last : RestLast
+rest_last = (tt, (tt, (tt, tt)))
 
 abbrev byte : {m : ℕ} → Slot m
 byte = plain (λ _. u8)
 
-abbrev pub rest-spells : (n : ℕ) (κ : Lft) → Spells (rows n κ)
-rest-spells n κ = (vals K, (vals K, (shr_slice_vals, tt)))
+abbrev pub rest_spells : (n : ℕ) (κ : Lft) → Spells (rows n κ)
+rest_spells n κ = (vals K, (vals K, (shr_slice_vals, tt)))
 
-pub rest-tells : (n : ℕ) (κ : Lft) → Tellss (rows n κ) (Ises (rows n κ)) (rest-spells n κ)
-rest-tells n κ = (tells K, (tells K, (shr_slice_Tells (named n) κ u8, tt)))
+pub rest_tells : (n : ℕ) (κ : Lft) → Tellss (rows n κ) (Ises (rows n κ)) (rest_spells n κ)
+rest_tells n κ = (tells K, (tells K, (shr_slice_Tells (named n) κ u8, tt)))
 
 module _ (m n : ℕ) (ok : AllWithin m (n ∷ [])) where
-  abbrev pub rest-slots : List (Slot m)
-  rest-slots = plain (λ _. row K) ∷ plain (λ _. row K) ∷ shr_slice_of (n ∷ []) ok byte ∷ []
+  abbrev pub rest_slots : List (Slot m)
+  rest_slots = plain (λ _. row K) ∷ plain (λ _. row K) ∷ shr_slice_of (n ∷ []) ok byte ∷ []
 
-  abbrev pub rest-stayed : Stays rest-slots (yes, (yes, (yes, tt)))
-  rest-stayed = (stay_none (λ _. row K) yes, (stay_none (λ _. row K) yes, (stay_none_slice (n ∷ []) ok byte yes, tt)))
+  abbrev pub rest_stayed : Stays rest_slots (yes, (yes, (yes, tt)))
+  rest_stayed = (stay_none (λ _. row K) yes, (stay_none (λ _. row K) yes, (stay_none_slice (n ∷ []) ok byte yes, tt)))
 
 module _ (k t : VirtualLocalTime) (s : Bor (List ℕ)) where
   abbrev pub rest : Rest
   rest = (k, (t, (s, tt)))
 
-  abbrev pub rest-vals : RestVals
-  rest-vals = (vals K k, (vals K t, (shr_slice_vals s, tt)))
+  abbrev pub rest_vals : RestVals
+  rest_vals = (vals K k, (vals K t, (shr_slice_vals s, tt)))
 
   abbrev pub passed : Val → List Val
-  passed v = v ∷ val K k ∷ val K t ∷ bytes-val s ∷ []
+  passed v = v ∷ val K k ∷ val K t ∷ bytes_val s ∷ []
 
   abbrev pub Owned : (R : RattleType) → R.Denot → List Val → ℕ → Lft → Fml
-  Owned R x vs n κ = owns (R ∷ rows n κ) (x, rest) (vs, rest-vals)
+  Owned R x vs n κ = owns (R ∷ rows n κ) (x, rest) (vs, rest_vals)
 
   abbrev pub RestOwned : ℕ → Lft → Fml
-  RestOwned n κ = owns (rows n κ) rest rest-vals
+  RestOwned n κ = owns (rows n κ) rest rest_vals
 
 module _ {M : Type 1} {𝓤 : Ura M} (𝓛 : Logic 𝓤) where
   pub rest_goes :
       (m n : ℕ) (ok : AllWithin m (n ∷ [])) →
-      AllGo 𝓛 m (rest-slots m n ok) (yes, (yes, (yes, tt))) (rest-stayed m n ok)
+      AllGo 𝓛 m (rest_slots m n ok) (yes, (yes, (yes, tt))) (rest_stayed m n ok)
   rest_goes m n ok = (kept, (kept, (Goes-none_slice 𝓛 m (n ∷ []) ok byte yes, tt)))
     where
       kept : Goes 𝓛 m (plain (λ _. row K)) yes (stay_none (λ _. row K) yes)

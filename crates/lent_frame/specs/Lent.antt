@@ -1,18 +1,18 @@
 -- Paper 02, request 11: "Let a frame be taken on one domain's record that the product lends, with that record updated
--- where it stands", "the kept reading passed beside" it. What is done is `frameCallOf`. Assumes nothing.
+-- where it stands", "the kept reading passed beside" it. What is done is `frame_call_of`. Assumes nothing.
 use Rattle.std.specs.Prelude.{ℕ, ◌≡◌, List}
 use Rattle.clock.specs.declared.reading.VirtualLocalTime.{VirtualLocalTime}
 use Rattle.domain.specs.declared.Domain.{Domain}
 use Rattle.call_frame.specs.declared.FrameCall.{FrameCall}
-use Rattle.call_frame.specs.FrameCall.{frameCallOf}
+use Rattle.call_frame.specs.FrameCall.{frame_call_of}
 use Rattle.lent_frame.specs.declared.LentFrame.{LentFrame}
 
 -- ---- what is answered: all but the record, which stays with the product
-abbrev pub lentFrame : FrameCall → LentFrame
-lentFrame r = record { answer = r.answer; kept = r.kept }
+abbrev pub lent_frame : FrameCall → LentFrame
+lent_frame r = record { answer = r.answer; kept = r.kept }
 
 -- ---- The promise: the answer, the kept reading, and the lent record.
 pub record TakenOn
     (d : Domain) (kept t : VirtualLocalTime) (bytes : List ℕ) (r : LentFrame) (after : Domain) : Type 0 where
-  pub call : r ≡ lentFrame (frameCallOf d kept t bytes)
-  pub domain : after ≡ (frameCallOf d kept t bytes).domain
+  pub call : r ≡ lent_frame (frame_call_of d kept t bytes)
+  pub domain : after ≡ (frame_call_of d kept t bytes).domain

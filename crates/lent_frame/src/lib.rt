@@ -2,7 +2,7 @@
 // kept reading, one for all records of a node, is passed beside it and given back. It is `frame_call` on the lent
 // record: 1, 2, 3, 4, 5; then 6, 15, or 7, 8, 9; and 4 also for a frame of another domain than the record's.
 ghost use Rattle.std.specs.Prelude.{◌≡◌};
-ghost use Rattle.call_frame.specs.FrameCall.{frameCallOf};
+ghost use Rattle.call_frame.specs.FrameCall.{frame_call_of};
 ghost use Rattle.lent_frame.specs.Lent.{TakenOn};
 
 use call_frame::{FrameCall, frame_call};
@@ -41,7 +41,7 @@ pub fn frame_lent(
     t: VirtualLocalTime,
     bytes: &[u8],
 ) -> FrameCall
-    ensures { result ≡ frameCallOf domain kept t bytes.now }
+    ensures { result ≡ frame_call_of domain kept t bytes.now }
 {
     let mut record = domain;
     let lent = frame_on(&mut record, kept, t, bytes);

@@ -2,7 +2,7 @@
 // record back by value, as it was where it refuses. The frame is answered as values; whoever has the
 // buffer writes it. The role is not looked at here.
 ghost use Rattle.std.specs.Prelude.{◌≡◌};
-ghost use Rattle.master_confirm.specs.Confirm.{confirmNumber, confirmOf};
+ghost use Rattle.master_confirm.specs.Confirm.{confirm_number, confirm_of};
 
 use clock::VirtualLocalTime;
 use domain::{Domain, Sending};
@@ -20,7 +20,7 @@ pub enum ConfirmAnswer {
 impl ConfirmAnswer {
     // The paper's number.
     pub fn number(self) -> u8
-        ensures { result ≡ confirmNumber self }
+        ensures { result ≡ confirm_number self }
     {
         match self {
             ConfirmAnswer::Followed(_) => 0,
@@ -38,7 +38,7 @@ pub struct ConfirmStep {
 // The FUP of the open SYNC, which is then no longer open, or 11, 12. `room` says whether the buffer has the
 // 8 bytes of a FUP.
 pub fn confirm(domain: Domain, t: VirtualLocalTime, counter: u8, room: bool) -> ConfirmStep
-    ensures { result ≡ confirmOf domain t counter room }
+    ensures { result ≡ confirm_of domain t counter room }
 {
     let settings = domain.settings;
     let sending = domain.sending;

@@ -10,27 +10,27 @@ use mathlib.Core.Bool.{Bool, true}
 use native.Mathlib.Omega.{arith}
 use lib.Dec.{leb, eqb}
 use borrow.Author.Tests.{leb-true, eqb-true}
-use Rattle.promise.proofs.Tests.{either-told, both}
+use Rattle.promise.proofs.Tests.{either_told, both}
 use Rattle.clock.specs.declared.reading.VirtualLocalTime.{VirtualLocalTime}
 use Rattle.clock.specs.declared.time.GlobalTime.{GlobalTime}
 use Rattle.clock.specs.Reading.{span_of}
-use Rattle.clock.specs.Time.{nanosecondsOf, IsSet}
-use Rattle.clock.proofs.Laws.{carry-exact, advance-exact}
+use Rattle.clock.specs.Time.{nanoseconds_of, IsSet}
+use Rattle.clock.proofs.Laws.{carry_exact, advance_exact}
 use Rattle.refusal.specs.declared.Refusal.TheVariants.{NoOpenSync, NoRoom}
 use Rattle.domain.specs.declared.Sending.{Sending}
 use Rattle.domain.specs.declared.Sending.TheVariants.{Never, Open, Confirmed}
 use Rattle.clock.specs.declared.over.Over.{Over}
 use Rattle.master_follow.specs.declared.Follow.{Follow}
 use Rattle.master_follow.specs.declared.Follow.TheVariants.{With, Refused as refused}
-use Rattle.clock.specs.Over.{overOf}
-use Rattle.master_follow.specs.Follow.{isOpenFor, whole_of, ovsOf, followOf}
+use Rattle.clock.specs.Over.{over_of}
+use Rattle.master_follow.specs.Follow.{is_open_for, whole_of, ovs_of, follow_of}
 
 module _ (g : GlobalTime) (at t : VirtualLocalTime) (good : IsSet g) (fresh : span_of at t ≤ 3000000000) where
-  pub whole-exact : nanosecondsOf (whole_of g at t) ≡ nanosecondsOf g + span_of at t
-  whole-exact = advance-exact g (span_of at t) (omega arith)
+  pub whole_exact : nanoseconds_of (whole_of g at t) ≡ nanoseconds_of g + span_of at t
+  whole_exact = advance_exact g (span_of at t) (omega arith)
 
-  pub ovs-bound : ovsOf g at t ≤ 3
-  ovs-bound = omega arith
+  pub ovs_bound : ovs_of g at t ≤ 3
+  ovs_bound = omega arith
 
 -- ---- by what comes over alone: the cap at 64 bits is out of reach of seconds of 32
 
@@ -39,8 +39,8 @@ over s n = record { seconds = s; nanoseconds = n }
 
 module _ (g : GlobalTime) (at t : VirtualLocalTime)
     (seconds : g.0 < 2 ^ 32) (nanoseconds : g.1 < 2 ^ 32) (span : span_of at t < 2 ^ 32) where
-  pub over-exact : overOf g.1 (span_of at t) ≡ over (ovsOf g at t) (whole_of g at t).1
-  over-exact = ap₂ over (omega (arith, carry-exact 64 g.0 (g.1 + span_of at t) (omega arith))) (omega arith)
+  pub over_exact : over_of g.1 (span_of at t) ≡ over (ovs_of g at t) (whole_of g at t).1
+  over_exact = ap₂ over (omega (arith, carry_exact 64 g.0 (g.1 + span_of at t) (omega arith))) (omega arith)
 
 -- ---- the cases of a confirmation; g is the time of the open SYNC, and `at` its reading
 
@@ -49,16 +49,16 @@ pub record OpenFor
   pub held : s ≡ Open counter g.0 g.1 at
   pub soon : span_of at t ≤ c
 
-pub by-follow :
+pub by_follow :
     (P : Follow → Type 0) (c : ℕ) (s : Sending) (t : VirtualLocalTime) (counter : ℕ) (room : Bool) →
     P (refused NoOpenSync) → P (refused NoRoom) →
     ((g : GlobalTime) (at : VirtualLocalTime) → OpenFor c s t counter g at → room ≡ true →
-    P (With (ovsOf g at t) (whole_of g at t).1 at)) →
-    P (followOf c s t counter room)
-by-follow P c Never t counter room no-sync no_room with = no-sync
-by-follow P c (Open sent seconds nanoseconds at) t counter room no-sync no_room with =
+    P (With (ovs_of g at t) (whole_of g at t).1 at)) →
+    P (follow_of c s t counter room)
+by_follow P c Never t counter room no_sync no_room with = no_sync
+by_follow P c (Open sent seconds nanoseconds at) t counter room no_sync no_room with =
     let g : GlobalTime = record { 0 = seconds; 1 = nanoseconds } in
-    either-told P (isOpenFor c sent at t counter)
+    either_told P (is_open_for c sent at t counter)
     (λ found.
     let tests = both (eqb sent counter) (leb (span_of at t) c) found in
     let told : OpenFor c (Open sent seconds nanoseconds at) t counter g at =
@@ -67,6 +67,6 @@ by-follow P c (Open sent seconds nanoseconds at) t counter room no-sync no_room 
       soon = leb-true _ _ tests.1;
     }
     in
-    either-told P room (λ has_room. with g at told has_room) (λ none. no_room))
-    (λ closed. no-sync)
-by-follow P c (Confirmed at) t counter room no-sync no_room with = no-sync
+    either_told P room (λ has_room. with g at told has_room) (λ none. no_room))
+    (λ closed. no_sync)
+by_follow P c (Confirmed at) t counter room no_sync no_room with = no_sync

@@ -3,13 +3,13 @@ use Prim.Native.Nat.{ℕ}
 use mathlib.Core.Path.{◌≡◌}
 use mathlib.Core.Bool.{Bool}
 use Rattle.promise.specs.Only.{OnlyOne}
-use Rattle.promise.proofs.Laws.{equation-only}
+use Rattle.promise.proofs.Laws.{equation_only}
 use Rattle.clock.specs.declared.reading.VirtualLocalTime.{VirtualLocalTime}
 use Rattle.domain.specs.declared.Sending.{Sending}
 use Rattle.master_follow.specs.declared.Follow.{Follow}
-use Rattle.master_follow.specs.Follow.{followOf}
+use Rattle.master_follow.specs.Follow.{follow_of}
 
-pub follow-up-only :
+pub follow_up_only :
     (c : ℕ) (s : Sending) (t : VirtualLocalTime) (counter : ℕ) (room : Bool) →
-    OnlyOne (λ (r : Follow). r ≡ followOf c s t counter room)
-follow-up-only c s t counter room = equation-only _
+    OnlyOne (λ (r : Follow). r ≡ follow_of c s t counter room)
+follow_up_only c s t counter room = equation_only _

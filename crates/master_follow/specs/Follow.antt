@@ -3,7 +3,7 @@ use Rattle.std.specs.Prelude.{ℕ, ◌-◌, Bool, cond, ◌&&◌, leb, eqb}
 use Rattle.clock.specs.declared.reading.VirtualLocalTime.{VirtualLocalTime}
 use Rattle.clock.specs.declared.time.GlobalTime.{GlobalTime}
 use Rattle.clock.specs.Reading.{span_of}
-use Rattle.clock.specs.Base.{base_of, timeAt}
+use Rattle.clock.specs.Base.{base_of, time_at}
 use Rattle.refusal.specs.declared.Refusal.TheVariants.{NoOpenSync, NoRoom}
 use Rattle.domain.specs.declared.Sending.{Sending}
 use Rattle.domain.specs.declared.Sending.TheVariants.{Never, Open, Confirmed}
@@ -11,25 +11,25 @@ use Rattle.master_follow.specs.declared.Follow.{Follow}
 use Rattle.master_follow.specs.declared.Follow.TheVariants.{With, Refused as refused}
 
 -- ---- "the open SYNC must have that counter and be at most C old": 11
-abbrev pub isOpenFor : (c sent : ℕ) → VirtualLocalTime → VirtualLocalTime → ℕ → Bool
-isOpenFor c sent at t counter = eqb sent counter && leb (span_of at t) c
+abbrev pub is_open_for : (c sent : ℕ) → VirtualLocalTime → VirtualLocalTime → ℕ → Bool
+is_open_for c sent at t counter = eqb sent counter && leb (span_of at t) c
 
 -- ---- "The whole time is the SYNC's time plus the reading's advance." "as OVS the whole seconds beyond
 -- those sent, and the nanoseconds"
 abbrev pub whole_of : GlobalTime → VirtualLocalTime → VirtualLocalTime → GlobalTime
-whole_of g at t = timeAt (base_of g at) t
+whole_of g at t = time_at (base_of g at) t
 
-abbrev pub ovsOf : GlobalTime → VirtualLocalTime → VirtualLocalTime → ℕ
-ovsOf g at t = (whole_of g at t).0 - g.0
+abbrev pub ovs_of : GlobalTime → VirtualLocalTime → VirtualLocalTime → ℕ
+ovs_of g at t = (whole_of g at t).0 - g.0
 
-abbrev pub followFrom : GlobalTime → VirtualLocalTime → VirtualLocalTime → Follow
-followFrom g at t = With (ovsOf g at t) (whole_of g at t).1 at
+abbrev pub follow_from : GlobalTime → VirtualLocalTime → VirtualLocalTime → Follow
+follow_from g at t = With (ovs_of g at t) (whole_of g at t).1 at
 
 -- ---- "in the order of the numbers": 11, 12 "output buffer under 8 bytes"; `room` says that it has 8
-abbrev pub followOf : (c : ℕ) → Sending → VirtualLocalTime → (counter : ℕ) → (room : Bool) → Follow
-followOf c Never t counter room = refused NoOpenSync
-followOf c (Open sent seconds nanoseconds at) t counter room =
-    cond (isOpenFor c sent at t counter)
-    (cond room (followFrom (record { 0 = seconds; 1 = nanoseconds }) at t) (refused NoRoom))
+abbrev pub follow_of : (c : ℕ) → Sending → VirtualLocalTime → (counter : ℕ) → (room : Bool) → Follow
+follow_of c Never t counter room = refused NoOpenSync
+follow_of c (Open sent seconds nanoseconds at) t counter room =
+    cond (is_open_for c sent at t counter)
+    (cond room (follow_from (record { 0 = seconds; 1 = nanoseconds }) at t) (refused NoRoom))
     (refused NoOpenSync)
-followOf c (Confirmed at) t counter room = refused NoOpenSync
+follow_of c (Confirmed at) t counter room = refused NoOpenSync

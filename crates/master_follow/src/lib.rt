@@ -1,6 +1,6 @@
 // The FUP of an open SYNC (paper 01, "A master's domain").
 ghost use Rattle.std.specs.Prelude.{◌≡◌};
-ghost use Rattle.master_follow.specs.Follow.{followOf};
+ghost use Rattle.master_follow.specs.Follow.{follow_of};
 
 use clock::{VirtualLocalTime, carried_over};
 use domain::Sending;
@@ -28,7 +28,7 @@ pub fn follow_up(
     counter: u8,
     room: bool,
 ) -> Follow
-    ensures { result ≡ followOf confirmation_time sending t counter room }
+    ensures { result ≡ follow_of confirmation_time sending t counter room }
 {
     match sending {
         Sending::Never => Follow::Refused(Refusal::NoOpenSync),

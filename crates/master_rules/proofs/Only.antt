@@ -4,7 +4,7 @@
 use Prim.Native.Nat.{ℕ}
 use mathlib.Core.Path.{◌≡◌}
 use Rattle.promise.specs.Only.{OnlyOne}
-use Rattle.promise.proofs.Laws.{equation-only}
+use Rattle.promise.proofs.Laws.{equation_only}
 use Rattle.clock.specs.declared.reading.VirtualLocalTime.{VirtualLocalTime}
 use Rattle.clock.specs.declared.base.Held.{Held}
 use Rattle.frame.specs.declared.values.Protection.{Protection}
@@ -12,13 +12,13 @@ use Rattle.settings.specs.declared.domain_settings.Role.{Role}
 use Rattle.settings.specs.declared.domain_settings.Security.{Security}
 use Rattle.domain.specs.declared.Sending.{Sending}
 use Rattle.master_rules.specs.declared.due.Due.{Due}
-use Rattle.master_rules.specs.Due.{dueOf}
-use Rattle.master_rules.specs.Sent.{protectionOf}
+use Rattle.master_rules.specs.Due.{due_of}
+use Rattle.master_rules.specs.Sent.{protection_of}
 
-pub due-at-only :
+pub due_at_only :
     (role : Role) (p : ℕ) (base : Held) (s : Sending) (t : VirtualLocalTime) →
-    OnlyOne (λ (r : Due). r ≡ dueOf role p base s t)
-due-at-only role p base s t = equation-only _
+    OnlyOne (λ (r : Due). r ≡ due_of role p base s t)
+due_at_only role p base s t = equation_only _
 
-pub protection-only : (security : Security) (user : ℕ) → OnlyOne (λ (r : Protection). r ≡ protectionOf security user)
-protection-only security user = equation-only _
+pub protection_only : (security : Security) (user : ℕ) → OnlyOne (λ (r : Protection). r ≡ protection_of security user)
+protection_only security user = equation_only _

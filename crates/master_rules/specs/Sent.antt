@@ -6,6 +6,6 @@ use Rattle.settings.specs.declared.domain_settings.Security.{Security}
 use Rattle.settings.specs.declared.domain_settings.Security.TheVariants.{Plain, Secured}
 
 -- ---- "per master plain or secured, the user bytes a master sends"
-abbrev pub protectionOf : Security → ℕ → Protection
-protectionOf Plain user = plain user
-protectionOf Secured user = secured
+abbrev pub protection_of : Security → ℕ → Protection
+protection_of Plain user = plain user
+protection_of Secured user = secured

@@ -1,6 +1,6 @@
 // When a master's domain is due (paper 01, "A master's domain").
 ghost use Rattle.std.specs.Prelude.{◌≡◌};
-ghost use Rattle.master_rules.specs.Due.{isMaster, hasWaited, dueOf};
+ghost use Rattle.master_rules.specs.Due.{is_master, has_waited, due_of};
 
 use clock::{GlobalTime, Held, VirtualLocalTime};
 use domain::Sending;
@@ -14,7 +14,7 @@ pub enum Due {
 }
 
 pub fn due_at(role: Role, period: u64, base: Held, sending: Sending, t: VirtualLocalTime) -> Due
-    ensures { result ≡ dueOf role period base sending t }
+    ensures { result ≡ due_of role period base sending t }
 {
     let Held::Set(set) = base else {
         return Due::No;
@@ -36,7 +36,7 @@ pub fn due_at(role: Role, period: u64, base: Held, sending: Sending, t: VirtualL
 }
 
 fn is_master(role: Role) -> bool
-    ensures { result ≡ isMaster role }
+    ensures { result ≡ is_master role }
 {
     match role {
         Role::Absent => false,
@@ -46,7 +46,7 @@ fn is_master(role: Role) -> bool
 }
 
 fn has_waited(period: u64, sending: Sending, t: VirtualLocalTime) -> bool
-    ensures { result ≡ hasWaited period sending t }
+    ensures { result ≡ has_waited period sending t }
 {
     match sending {
         Sending::Never => true,

@@ -11,21 +11,21 @@ use Rattle.master_rules.specs.declared.due.Due.{Due}
 use Rattle.master_rules.specs.declared.due.Due.TheVariants.{At, No}
 use Rattle.master_send.specs.declared.SendAnswer.TheVariants.{NotDue}
 use Rattle.master_send.specs.declared.SendStep.{SendStep}
-use Rattle.master_send.specs.Send.{dueIn, sendAs, sendOf}
+use Rattle.master_send.specs.Send.{due_in, send_as, send_of}
 
 -- ---- a rest keeps the record
 
 abbrev Rests : Domain → SendStep → Type 0
 Rests d r = r.answer ≡ NotDue → r.domain ≡ d
 
-as-rests : (due : Due) (d : Domain) (t : VirtualLocalTime) → Rests d (sendAs due d t)
-as-rests (At seconds nanoseconds) d t = λ e. cc
-as-rests No d t = λ e. refl
+as_rests : (due : Due) (d : Domain) (t : VirtualLocalTime) → Rests d (send_as due d t)
+as_rests (At seconds nanoseconds) d t = λ e. cc
+as_rests No d t = λ e. refl
 
-pub rest-keeps : (d : Domain) (t : VirtualLocalTime) → Rests d (sendOf d t)
-rest-keeps d t = as-rests (dueIn d t) d t
+pub rest_keeps : (d : Domain) (t : VirtualLocalTime) → Rests d (send_of d t)
+rest_keeps d t = as_rests (due_in d t) d t
 
 -- ---- the counter
 
-pub counter-exact : (counter : ℕ) → counter < 16 → (counter % 16 + 1) % 16 ≡ (counter + 1) % 16
-counter-exact counter h = rw (mod-eq_of_lt h)
+pub counter_exact : (counter : ℕ) → counter < 16 → (counter % 16 + 1) % 16 ≡ (counter + 1) % 16
+counter_exact counter h = rw (mod-eq_of_lt h)

@@ -4,14 +4,14 @@
 use mathlib.Core.Path.{◌≡◌}
 use mathlib.Core.Bool.{Bool}
 use Rattle.promise.specs.Only.{OnlyOne}
-use Rattle.promise.proofs.Laws.{equation-only}
+use Rattle.promise.proofs.Laws.{equation_only}
 use Rattle.clock.specs.declared.reading.VirtualLocalTime.{VirtualLocalTime}
 use Rattle.domain.specs.declared.Domain.{Domain}
 use Rattle.master_send.specs.declared.SendStep.{SendStep}
-use Rattle.master_send.specs.Send.{isDue, sendOf}
+use Rattle.master_send.specs.Send.{is_due, send_of}
 
-pub is-due-only : (d : Domain) (t : VirtualLocalTime) → OnlyOne (λ (r : Bool). r ≡ isDue d t)
-is-due-only d t = equation-only _
+pub is_due_only : (d : Domain) (t : VirtualLocalTime) → OnlyOne (λ (r : Bool). r ≡ is_due d t)
+is_due_only d t = equation_only _
 
-pub send-only : (d : Domain) (t : VirtualLocalTime) → OnlyOne (λ (r : SendStep). r ≡ sendOf d t)
-send-only d t = equation-only _
+pub send_only : (d : Domain) (t : VirtualLocalTime) → OnlyOne (λ (r : SendStep). r ≡ send_of d t)
+send_only d t = equation_only _

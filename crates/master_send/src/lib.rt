@@ -3,7 +3,7 @@
 // as values; whoever has the buffer writes it. Of the steps on a record this one alone asks for the role, since a main
 // cycle passes over all records.
 ghost use Rattle.std.specs.Prelude.{◌≡◌};
-ghost use Rattle.master_send.specs.Send.{isDue, sendOf};
+ghost use Rattle.master_send.specs.Send.{is_due, send_of};
 
 use clock::VirtualLocalTime;
 use domain::{Domain, Sending};
@@ -25,7 +25,7 @@ pub struct SendStep {
 
 // Whether the domain is due at t.
 pub fn is_due(domain: Domain, t: VirtualLocalTime) -> bool
-    ensures { result ≡ isDue domain t }
+    ensures { result ≡ is_due domain t }
 {
     let settings = domain.settings;
     let role = settings.role;
@@ -42,7 +42,7 @@ pub fn is_due(domain: Domain, t: VirtualLocalTime) -> bool
 
 // Sends a SYNC if the domain is due at t. The record then holds it as open.
 pub fn send(domain: Domain, t: VirtualLocalTime) -> SendStep
-    ensures { result ≡ sendOf domain t }
+    ensures { result ≡ send_of domain t }
 {
     let settings = domain.settings;
     let role = settings.role;

@@ -11,20 +11,20 @@ use Rattle.refusal.specs.declared.Refusal.{Refusal}
 use Rattle.domain.specs.declared.Domain.{Domain}
 use Rattle.master_set.specs.declared.SetAnswer.TheVariants.{Refused as set-refused}
 use Rattle.master_set.specs.declared.SetStep.{SetStep}
-use Rattle.master_set.specs.Set.{setOf}
+use Rattle.master_set.specs.Set.{set_of}
 
 -- ---- a refusal keeps the record
 
-pub refusal-keeps-set :
+pub refusal_keeps_set :
     (d : Domain) (t : VirtualLocalTime) (s n : ℕ) (refusal : Refusal) →
-    (setOf d t s n).answer ≡ set-refused refusal → (setOf d t s n).domain ≡ d
-refusal-keeps-set d t s n =
+    (set_of d t s n).answer ≡ set-refused refusal → (set_of d t s n).domain ≡ d
+refusal_keeps_set d t s n =
     either (λ (r : SetStep). (refusal : Refusal) → r.answer ≡ set-refused refusal → r.domain ≡ d)
     (leb n 999999999) (λ r e. cc) (λ r e. refl)
 
 -- ---- what a set does
 
-pub set-keeps-sending :
-    (d : Domain) (t : VirtualLocalTime) (s n : ℕ) → (setOf d t s n).domain.sending ≡ d.sending
-set-keeps-sending d t s n =
+pub set_keeps_sending :
+    (d : Domain) (t : VirtualLocalTime) (s n : ℕ) → (set_of d t s n).domain.sending ≡ d.sending
+set_keeps_sending d t s n =
     either (λ (r : SetStep). r.domain.sending ≡ d.sending) (leb n 999999999) refl refl

@@ -1,7 +1,7 @@
 // A time that is set on a master's record (paper 01, "A master's domain"). The step answers, and gives
 // the record back by value, as it was where it refuses. The role is not looked at here.
 ghost use Rattle.std.specs.Prelude.{◌≡◌};
-ghost use Rattle.master_set.specs.Set.{setNumber, setOf};
+ghost use Rattle.master_set.specs.Set.{set_number, set_of};
 
 use clock::{GlobalTime, Held, TimeBase, VirtualLocalTime};
 use domain::{Domain, next_update};
@@ -16,7 +16,7 @@ pub enum SetAnswer {
 impl SetAnswer {
     // The paper's number.
     pub fn number(self) -> u8
-        ensures { result ≡ setNumber self }
+        ensures { result ≡ set_number self }
     {
         match self {
             SetAnswer::Done => 0,
@@ -33,7 +33,7 @@ pub struct SetStep {
 
 // The base holds the given time at t, or 9. An open SYNC is not touched.
 pub fn set_time(domain: Domain, t: VirtualLocalTime, seconds: u32, nanoseconds: u32) -> SetStep
-    ensures { result ≡ setOf domain t seconds nanoseconds }
+    ensures { result ≡ set_of domain t seconds nanoseconds }
 {
     if GlobalTime::NANOSECONDS_MAX < nanoseconds {
         return SetStep {

@@ -3,10 +3,10 @@
 -- Assumes nothing.
 use mathlib.Core.Path.{◌≡◌}
 use Rattle.promise.specs.Only.{OnlyOne}
-use Rattle.promise.proofs.Laws.{equation-only}
+use Rattle.promise.proofs.Laws.{equation_only}
 use Rattle.settings.specs.declared.node_settings.NodeSettings.{NodeSettings}
 use Rattle.node.specs.declared.NewNode.{NewNode}
-use Rattle.node.specs.New.{newOf}
+use Rattle.node.specs.New.{new_of}
 
-pub new-only : (s : NodeSettings) → OnlyOne (λ (r : NewNode). r ≡ newOf s)
-new-only s = equation-only _
+pub new_only : (s : NodeSettings) → OnlyOne (λ (r : NewNode). r ≡ new_of s)
+new_only s = equation_only _

@@ -5,10 +5,10 @@ use Rattle.node.specs.declared.cycles.CycleAnswer.{CycleAnswer}
 use Rattle.node.specs.declared.cycles.CycleAnswer.TheVariants.{Sent, Refused}
 
 -- ---- "0 is success"; "A refused call returns the number and zeros"
-abbrev pub cycleNumber : CycleAnswer → ℕ
-cycleNumber (Sent count) = 0
-cycleNumber (Refused refusal) = number_of refusal
+abbrev pub cycle_number : CycleAnswer → ℕ
+cycle_number (Sent count) = 0
+cycle_number (Refused refusal) = number_of refusal
 
-abbrev pub cycleCount : CycleAnswer → ℕ
-cycleCount (Sent count) = count
-cycleCount (Refused refusal) = 0
+abbrev pub cycle_count : CycleAnswer → ℕ
+cycle_count (Sent count) = count
+cycle_count (Refused refusal) = 0

@@ -2,10 +2,10 @@
 use Rattle.std.specs.Prelude.{ℕ, ◌%◌}
 use Rattle.clock.specs.declared.reading.VirtualLocalTime.{VirtualLocalTime}
 use Rattle.call_read.specs.declared.ReadAnswer.{ReadAnswer}
-use Rattle.call_read.specs.ReadCall.{readCallOf}
+use Rattle.call_read.specs.ReadCall.{read_call_of}
 use Rattle.settings.specs.Node.{places}
-use Rattle.domain.specs.Records.{recordAt}
+use Rattle.domain.specs.Records.{record_at}
 use Rattle.node.specs.declared.Node.{Node}
 
-abbrev pub nodeReadOf : Node → (domain : ℕ) → VirtualLocalTime → ReadAnswer
-nodeReadOf n domain t = readCallOf (recordAt n.domains (domain % places)) n.kept domain t
+abbrev pub node_read_of : Node → (domain : ℕ) → VirtualLocalTime → ReadAnswer
+node_read_of n domain t = read_call_of (record_at n.domains (domain % places)) n.kept domain t

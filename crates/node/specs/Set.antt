@@ -2,16 +2,16 @@
 use Rattle.std.specs.Prelude.{ℕ, ◌%◌}
 use Rattle.clock.specs.declared.reading.VirtualLocalTime.{VirtualLocalTime}
 use Rattle.call_set.specs.declared.SetCall.{SetCall}
-use Rattle.call_set.specs.SetCall.{setCallOf}
+use Rattle.call_set.specs.SetCall.{set_call_of}
 use Rattle.settings.specs.Node.{places}
-use Rattle.domain.specs.Records.{recordAt}
+use Rattle.domain.specs.Records.{record_at}
 use Rattle.node.specs.declared.Node.{Node}
 use Rattle.node.specs.declared.sets.NodeSet.{NodeSet}
-use Rattle.node.specs.Store.{storedIn}
+use Rattle.node.specs.Store.{stored_in}
 
-abbrev pub setStored : Node → (at : ℕ) → SetCall → NodeSet
-setStored n at r = record { answer = r.answer; node = storedIn n at r.domain r.kept }
+abbrev pub set_stored : Node → (at : ℕ) → SetCall → NodeSet
+set_stored n at r = record { answer = r.answer; node = stored_in n at r.domain r.kept }
 
-abbrev pub nodeSetOf : Node → (domain : ℕ) → VirtualLocalTime → (seconds nanoseconds : ℕ) → NodeSet
-nodeSetOf n domain t s ns =
-    setStored n (domain % places) (setCallOf (recordAt n.domains (domain % places)) n.kept domain t s ns)
+abbrev pub node_set_of : Node → (domain : ℕ) → VirtualLocalTime → (seconds nanoseconds : ℕ) → NodeSet
+node_set_of n domain t s ns =
+    set_stored n (domain % places) (set_call_of (record_at n.domains (domain % places)) n.kept domain t s ns)

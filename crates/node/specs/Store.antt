@@ -5,8 +5,8 @@ use Rattle.domain.specs.declared.Domain.{Domain}
 use Rattle.node.specs.declared.Node.{Node}
 
 -- ---- the node with a record stored at a place, and a reading kept
-abbrev pub storedIn : Node → (at : ℕ) → Domain → VirtualLocalTime → Node
-storedIn n at d kept =
+abbrev pub stored_in : Node → (at : ℕ) → Domain → VirtualLocalTime → Node
+stored_in n at d kept =
     record {
       domains = set n.domains at d;
       kept = kept;

@@ -1,6 +1,6 @@
 // A node's main cycle (paper 01, "A master's domain").
 ghost use Rattle.std.specs.Prelude.{◌≡◌};
-ghost use Rattle.node.specs.CycleAnswer.{cycleNumber};
+ghost use Rattle.node.specs.CycleAnswer.{cycle_number};
 ghost use Rattle.node.specs.Cycle.{CycledIn};
 
 use crate::Node;
@@ -19,7 +19,7 @@ pub enum CycleAnswer {
 impl CycleAnswer {
     // The paper's number.
     pub fn number(self) -> u8
-        ensures { result ≡ cycleNumber self }
+        ensures { result ≡ cycle_number self }
     {
         match self {
             CycleAnswer::Sent(_) => 0,

@@ -1,6 +1,6 @@
 // A node's frame call (paper 01, "A slave's domain").
 ghost use Rattle.std.specs.Prelude.{◌≡◌};
-ghost use Rattle.node.specs.Frame.{nodeFrameOf};
+ghost use Rattle.node.specs.Frame.{node_frame_of};
 
 use crate::Node;
 use call_frame::frame_call;
@@ -17,7 +17,7 @@ pub struct NodeFrame {
 
 // A frame of any length at t: 1, 2, 3, 4, 5; then 6, or 7, 8, 9.
 pub fn on_frame(mut node: Node, t: VirtualLocalTime, bytes: &[u8]) -> NodeFrame
-    ensures { result ≡ nodeFrameOf node t bytes.now }
+    ensures { result ≡ node_frame_of node t bytes.now }
 {
     let at = (named_domain(bytes) % PLACES) as usize;
     let kept = node.kept;

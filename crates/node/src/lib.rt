@@ -9,7 +9,7 @@ pub mod reads;
 pub mod sets;
 
 ghost use Rattle.std.specs.Prelude.{◌≡◌};
-ghost use Rattle.node.specs.New.{recordsOf, freshNode, newOf};
+ghost use Rattle.node.specs.New.{records_of, fresh_node, new_of};
 
 use clock::VirtualLocalTime;
 pub use confirms::{NodeConfirm, on_confirmation};
@@ -43,7 +43,7 @@ impl Node {
 
     // A fresh node; or 14, and one with all domains absent and S 1.
     pub fn new(settings: NodeSettings) -> NewNode
-        ensures { result ≡ newOf settings }
+        ensures { result ≡ new_of settings }
     {
         match settings.judge() {
             Verdict::Refused(refusal) => {
@@ -65,7 +65,7 @@ impl Node {
 }
 
 fn fresh_node(syncs_per_cycle: u8, settings: [DomainSettings; Node::DOMAINS]) -> Node
-    ensures { result ≡ freshNode syncs_per_cycle settings }
+    ensures { result ≡ fresh_node syncs_per_cycle settings }
 {
     Node {
         domains: fresh_records(settings),
@@ -76,7 +76,7 @@ fn fresh_node(syncs_per_cycle: u8, settings: [DomainSettings; Node::DOMAINS]) ->
 }
 
 fn fresh_records(settings: [DomainSettings; Node::DOMAINS]) -> [Domain; Node::DOMAINS]
-    ensures { result ≡ recordsOf 0 settings }
+    ensures { result ≡ records_of 0 settings }
 {
     let mut records = [Domain::new(0, DomainSettings::absent()); Node::DOMAINS];
     let mut d = 0;

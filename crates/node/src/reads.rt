@@ -1,6 +1,6 @@
 // A node's read call (paper 01, "Refusal numbers").
 ghost use Rattle.std.specs.Prelude.{◌≡◌};
-ghost use Rattle.node.specs.Read.{nodeReadOf};
+ghost use Rattle.node.specs.Read.{node_read_of};
 
 use crate::Node;
 use call_read::{ReadAnswer, read_call};
@@ -9,7 +9,7 @@ use round::turns::PLACES;
 
 // Time, status, user bytes and update counter of a domain at t: 1, 4, 10. It changes nothing.
 pub fn on_read(node: Node, domain: u8, t: VirtualLocalTime) -> ReadAnswer
-    ensures { result ≡ nodeReadOf node domain t }
+    ensures { result ≡ node_read_of node domain t }
 {
     let at = (domain % PLACES) as usize;
     let kept = node.kept;

@@ -1,6 +1,6 @@
 // A node's set call (paper 01, "A master's domain").
 ghost use Rattle.std.specs.Prelude.{◌≡◌};
-ghost use Rattle.node.specs.Set.{nodeSetOf};
+ghost use Rattle.node.specs.Set.{node_set_of};
 
 use crate::Node;
 use call_set::set_call;
@@ -22,7 +22,7 @@ pub fn on_set(
     seconds: u32,
     nanoseconds: u32,
 ) -> NodeSet
-    ensures { result ≡ nodeSetOf node domain t seconds nanoseconds }
+    ensures { result ≡ node_set_of node domain t seconds nanoseconds }
 {
     let at = (domain % PLACES) as usize;
     let kept = node.kept;

@@ -5,22 +5,22 @@ use Prim.Native.Nat.{ℕ}
 use mathlib.Core.Path.{◌≡◌, sym, ◌∙◌}
 use mathlib.Core.List.{List}
 use Rattle.promise.specs.Only.{OnlyOne}
-use Rattle.promise.proofs.Laws.{equation-only}
+use Rattle.promise.proofs.Laws.{equation_only}
 use Rattle.node.specs.declared.Node.{Node}
 use Rattle.node_call.specs.declared.Request.{Request}
 use Rattle.node_call.specs.declared.CallAnswer.{CallAnswer}
 use Rattle.node_call.specs.declared.Called.{Called}
-use Rattle.node_call.specs.Calls.{callNumber}
+use Rattle.node_call.specs.Calls.{call_number}
 use Rattle.node_call.specs.Called.{CalledIn}
 
-pub call-only :
+pub call_only :
     (n : Node) (q : Request) (given before : List ℕ) →
     OnlyOne (λ (r : Called × List ℕ). CalledIn n q given before r.0 r.1)
-call-only n q given before x y p q' =
+call_only n q given before x y p q' =
     let answer = p.answer ∙ sym q'.answer in
     let node = p.node ∙ sym q'.node in
     let bytes = p.bytes ∙ sym q'.bytes in
     λ i. (record { answer = answer i; node = node i }, bytes i)
 
-pub number-only : (answer : CallAnswer) → OnlyOne (λ (r : ℕ). r ≡ callNumber answer)
-number-only answer = equation-only _
+pub number_only : (answer : CallAnswer) → OnlyOne (λ (r : ℕ). r ≡ call_number answer)
+number_only answer = equation_only _

@@ -5,7 +5,7 @@ use Rattle.node.specs.declared.Node.{Node}
 use Rattle.node_call.specs.declared.Request.{Request}
 use Rattle.node_call.specs.declared.Request.TheVariants as asked
 use Rattle.node_call.specs.declared.Called.{Called}
-use Rattle.node_call.specs.Calls.{Call, frame, read, set, cycle, confirm, nodeAfter, answer_of, bytesAfter}
+use Rattle.node_call.specs.Calls.{Call, frame, read, set, cycle, confirm, node_after, answer_of, bytes_after}
 
 -- ---- The call that a request is.
 abbrev pub call_of : Request → (bytes out : List ℕ) → Call
@@ -19,5 +19,5 @@ call_of (asked.Confirm domain t counter) bytes out = confirm domain t counter ou
 pub record CalledIn
     (n : Node) (q : Request) (given before : List ℕ) (r : Called) (after : List ℕ) : Type 0 where
   pub answer : r.answer ≡ answer_of n (call_of q given before)
-  pub node : r.node ≡ nodeAfter n (call_of q given before)
-  pub bytes : after ≡ bytesAfter n (call_of q given before) before
+  pub node : r.node ≡ node_after n (call_of q given before)
+  pub bytes : after ≡ bytes_after n (call_of q given before) before

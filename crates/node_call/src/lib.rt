@@ -1,7 +1,7 @@
 // Any call to a node (paper 01): which one, what it is given, and what it answers. The bytes of a frame and
 // the lent buffer stand beside it.
 ghost use Rattle.std.specs.Prelude.{◌≡◌};
-ghost use Rattle.node_call.specs.Calls.{callNumber};
+ghost use Rattle.node_call.specs.Calls.{call_number};
 ghost use Rattle.node_call.specs.Called.{CalledIn};
 
 use call_read::ReadAnswer;
@@ -37,7 +37,7 @@ pub enum CallAnswer {
 impl CallAnswer {
     // The paper's number.
     pub fn number(self) -> u8
-        ensures { result ≡ callNumber self }
+        ensures { result ≡ call_number self }
     {
         match self {
             CallAnswer::Frame(frame) => frame.number(),

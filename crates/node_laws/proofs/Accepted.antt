@@ -24,14 +24,14 @@ use Rattle.frame.specs.Types.{type_of}
 use Rattle.frame_read.specs.declared.Read.TheVariants.{Values, LengthNot8}
 use Rattle.frame_read.specs.Read.{read_of, values_of}
 use Rattle.frame_laws.specs.RoundTrip.{AreBytes}
-use Rattle.frame_laws.proofs.Laws.{write-back}
-use Rattle.admission.specs.Reading.{isGoodReading}
-use Rattle.domain.specs.Records.{recordAt}
+use Rattle.frame_laws.proofs.Laws.{write_back}
+use Rattle.admission.specs.Reading.{is_good_reading}
+use Rattle.domain.specs.Records.{record_at}
 use Rattle.node.specs.declared.Node.{Node}
-use Rattle.node.specs.Frame.{addressedBy}
-use Rattle.node_laws.specs.Tests.{noType}
+use Rattle.node.specs.Frame.{addressed_by}
+use Rattle.node_laws.specs.Tests.{no_type}
 use Rattle.node_laws.specs.Back.{FrameBack, AcceptedBack}
-use Rattle.node_laws.proofs.Order.{frame-order}
+use Rattle.node_laws.proofs.Order.{frame_order}
 
 -- ---- where the first number is 0 a test with another number does not hold, and the later ones are asked
 
@@ -48,21 +48,21 @@ told false e = sym e
 
 module _ (ids : DataIds) (bytes : List ℕ) (are : AreBytes bytes) where
   reads : (f : Frame) → read_of bytes ≡ Values f → FrameBack ids bytes
-  reads f e = record { values = f; read = e; back = write-back ids f bytes are e }
+  reads f e = record { values = f; read = e; back = write_back ids f bytes are e }
 
   typed :
-      (type : FrameType) → noType type ≡ false → read_of bytes ≡ values_of type bytes → FrameBack ids bytes
+      (type : FrameType) → no_type type ≡ false → read_of bytes ≡ values_of type bytes → FrameBack ids bytes
   typed PlainSync one e = reads _ e
   typed SecuredSync one e = reads _ e
   typed PlainFup one e = reads _ e
   typed SecuredFup one e = reads _ e
   typed Unknown one e = let no : ◌≡◌ {A = ℕ} 0 1 = cc in absurd (omega arith)
 
-pub accepted-back : (n : Node) (t : VirtualLocalTime) (bytes : List ℕ) → AcceptedBack n t bytes
-accepted-back n t bytes are e =
+pub accepted_back : (n : Node) (t : VirtualLocalTime) (bytes : List ℕ) → AcceptedBack n t bytes
+accepted_back n t bytes are e =
     let type = type_of (get_or bytes 0 0) in
-    let one = passed (not (isGoodReading n.kept t)) (λ z. omega arith) (sym (frame-order n t bytes) ∙ e) in
+    let one = passed (not (is_good_reading n.kept t)) (λ z. omega arith) (sym (frame_order n t bytes) ∙ e) in
     let two = passed (not (eqb (length bytes) 8)) (λ z. omega arith) one.1 in
-    let three = passed (noType type) (λ z. omega arith) two.1 in
-    typed (recordAt n.domains (addressedBy bytes)).settings.ids bytes are type three.0
+    let three = passed (no_type type) (λ z. omega arith) two.1 in
+    typed (record_at n.domains (addressed_by bytes)).settings.ids bytes are type three.0
     (ap (λ (b : Bool). cond b (values_of type bytes) LengthNot8) (told (eqb (length bytes) 8) two.0))

@@ -21,18 +21,18 @@ use lib.Dec.{eqb}
 use lib.IntN.{ℤ, pos}
 use lib.ListN.{length, get_or}
 use borrow.Author.Tests.{leb-true, eqb-true}
-use Rattle.promise.proofs.Tests.{either, either-told, both}
+use Rattle.promise.proofs.Tests.{either, either_told, both}
 use Rattle.promise.proofs.Lists.{get_d_any}
 use Rattle.clock.specs.declared.reading.VirtualLocalTime.{VirtualLocalTime}
 use Rattle.clock.specs.declared.time.GlobalTime.{GlobalTime}
 use Rattle.clock.specs.declared.base.TimeBase.{TimeBase}
 use Rattle.clock.specs.declared.base.Held.{Held}
 use Rattle.clock.specs.declared.base.Held.TheVariants.{Unset, Set}
-use Rattle.clock.specs.Reading.{isReading}
+use Rattle.clock.specs.Reading.{is_reading}
 use Rattle.clock.specs.Time.{IsReceived, IsRead}
-use Rattle.clock.specs.Base.{timeAt}
-use Rattle.clock.proofs.Laws.{time-exact, read-bound}
-use Rattle.clock.proofs.difference.Laws.{difference-read}
+use Rattle.clock.specs.Base.{time_at}
+use Rattle.clock.proofs.Laws.{time_exact, read_bound}
+use Rattle.clock.proofs.difference.Laws.{difference_read}
 use Rattle.frame.specs.declared.types.FrameType.{FrameType}
 use Rattle.frame.specs.declared.types.FrameType.TheVariants.{
   PlainSync,
@@ -47,12 +47,12 @@ use Rattle.frame.specs.declared.values.Frame.{Frame}
 use Rattle.frame.specs.declared.values.Frame.TheVariants.{Sync as sync, Fup as fup}
 use Rattle.frame.specs.ByteTwo.{counters}
 use Rattle.frame.specs.Types.{type_of}
-use Rattle.frame.specs.Values.{domainIn}
+use Rattle.frame.specs.Values.{domain_in}
 use Rattle.frame_read.specs.declared.Read.{Read}
 use Rattle.frame_read.specs.declared.Read.TheVariants.{Values, LengthNot8, NoSuchType}
 use Rattle.frame_read.specs.Read.{read_of, values_of}
 use Rattle.frame_check.specs.Check.{is_taken}
-use Rattle.frame_laws.proofs.Laws.{byte-below}
+use Rattle.frame_laws.proofs.Laws.{byte_below}
 use Rattle.refusal.specs.declared.Refusal.{Refusal}
 use Rattle.settings.specs.declared.domain_settings.Role.{Role}
 use Rattle.settings.specs.declared.domain_settings.Role.TheVariants.{Absent, Slave, Master}
@@ -61,55 +61,55 @@ use Rattle.admission.specs.declared.Admission.{Admission}
 use Rattle.admission.specs.declared.Needed.TheVariants.{Slave as slave, Either}
 use Rattle.admission.specs.declared.frames.FrameAdmission.{FrameAdmission}
 use Rattle.admission.specs.declared.frames.FrameAdmission.TheVariants.{Refused}
-use Rattle.admission.specs.Reading.{isGoodReading}
-use Rattle.admission.specs.Admission.{isIn, isFor}
-use Rattle.admission.specs.FrameAdmission.{readFor}
-use Rattle.admission.proofs.Laws.{Tested, good-reading, by-admission, slave-admitted}
+use Rattle.admission.specs.Reading.{is_good_reading}
+use Rattle.admission.specs.Admission.{is_in, is_for}
+use Rattle.admission.specs.FrameAdmission.{read_for}
+use Rattle.admission.proofs.Laws.{Tested, good_reading, by_admission, slave_admitted}
 use Rattle.domain.specs.declared.Domain.{Domain}
 use Rattle.domain.specs.declared.Pair.{Pair}
 use Rattle.domain.specs.declared.Pairing.{Pairing}
 use Rattle.domain.specs.declared.Pairing.TheVariants.{Open as open-pair}
 use Rattle.domain.specs.declared.LastSync.TheVariants.{Seen}
-use Rattle.domain.specs.Records.{recordAt}
-use Rattle.slave_counter.specs.Counter.{jumpOf}
-use Rattle.slave_counter.proofs.Laws.{jump-exact}
+use Rattle.domain.specs.Records.{record_at}
+use Rattle.slave_counter.specs.Counter.{jump_of}
+use Rattle.slave_counter.proofs.Laws.{jump_exact}
 use Rattle.slave_pair.specs.declared.joining.Joined.{Joined}
-use Rattle.slave_pair.proofs.Laws.{Joins, by-joined}
+use Rattle.slave_pair.proofs.Laws.{Joins, by_joined}
 use Rattle.slave_answer.specs.declared.FrameAnswer.TheVariants.{Updated}
 use Rattle.slave_answer.specs.declared.FrameStep.{FrameStep}
-use Rattle.slave_answer.specs.Answer.{refusedOf}
-use Rattle.slave_update.specs.Update.{newBase, movedBy}
-use Rattle.slave_update.proofs.Laws.{received-bound}
+use Rattle.slave_answer.specs.Answer.{refused_of}
+use Rattle.slave_update.specs.Update.{new_base, moved_by}
+use Rattle.slave_update.proofs.Laws.{received_bound}
 use Rattle.slave_counter.specs.declared.RowCheck.{RowCheck}
 use Rattle.slave_counter.specs.declared.RowCheck.TheVariants.{NotGood, Joins as joins-row, Complete}
-use Rattle.slave_sync.specs.Sync.{checkFor, syncAs}
-use Rattle.slave_fup.specs.Fup.{updateIn, fupAs}
+use Rattle.slave_sync.specs.Sync.{check_for, sync_as}
+use Rattle.slave_fup.specs.Fup.{update_in, fup_as}
 use Rattle.slave_frame.specs.Step.{kind_of}
 use Rattle.master_rules.specs.declared.due.Due.{Due}
 use Rattle.master_rules.specs.declared.due.Due.TheVariants.{At}
-use Rattle.master_rules.proofs.Laws.{by-due}
-use Rattle.master_send.specs.Send.{dueIn}
-use Rattle.call_frame.specs.FrameCall.{frameCallAs, frameCallOf}
+use Rattle.master_rules.proofs.Laws.{by_due}
+use Rattle.master_send.specs.Send.{due_in}
+use Rattle.call_frame.specs.FrameCall.{frame_call_as, frame_call_of}
 use Rattle.call_read.specs.declared.Shown.{Shown}
 use Rattle.call_read.specs.declared.ReadAnswer.TheVariants.{Time, Refused as not-shown}
-use Rattle.call_read.specs.ReadCall.{readAs, readCallAs, readCallOf}
+use Rattle.call_read.specs.ReadCall.{read_as, read_call_as, read_call_of}
 use Rattle.round.specs.Round.{goes}
 use Rattle.node.specs.declared.Node.{Node}
-use Rattle.node.specs.New.{newOf}
-use Rattle.node.specs.Frame.{addressedBy, nodeFrameOf}
-use Rattle.node_call.specs.Calls.{Call, frame, nodeAfter, nodeAfterAll}
-use Rattle.bench_settings.specs.Bench.{benchWith}
+use Rattle.node.specs.New.{new_of}
+use Rattle.node.specs.Frame.{addressed_by, node_frame_of}
+use Rattle.node_call.specs.Calls.{Call, frame, node_after, node_after_all}
+use Rattle.bench_settings.specs.Bench.{bench_with}
 use Rattle.node_laws.specs.Reachable.{Reachable, after}
 use Rattle.node_laws.specs.Good.{LastWithin, PairWithin, BaseFirst, SlaveGood, RoleGood, RecordGood}
 use Rattle.node_laws.specs.Bounds.{TimeExact}
-use Rattle.node_laws.specs.Cases.{benchCalls}
+use Rattle.node_laws.specs.Cases.{bench_calls}
 use Rattle.node_laws.specs.Caps.{
   HeldAt,
-  of-base,
-  of-last,
+  of_base,
+  of_last,
   of_pair,
-  of-open,
-  of-confirmed,
+  of_open,
+  of_confirmed,
   Passes,
   SpanExact,
   Leads,
@@ -121,16 +121,16 @@ use Rattle.node_laws.specs.Caps.{
   CapsExact,
 }
 use Rattle.node_laws.proofs.Bounds.{
-  base-within,
-  base-before,
-  time-exact-here,
-  sent-within,
-  next-counter-within,
+  base_within,
+  base_before,
+  time_exact_here,
+  sent_within_lem,
+  next_counter_within,
 }
-use Rattle.node_laws.proofs.Slave.{pair-before}
-use Rattle.node_laws.proofs.Reachable.{reachable-good}
+use Rattle.node_laws.proofs.Slave.{pair_before}
+use Rattle.node_laws.proofs.Reachable.{reachable_good}
 use Rattle.node_laws.proofs.Laws.{stored_at}
-use Rattle.node_laws.proofs.Witness.{is-call, bench-reached, bench-held}
+use Rattle.node_laws.proofs.Witness.{is_call_lem, bench_reached, bench_held}
 
 -- ---- what a frame carries: a counter of four bits, and an OVS of two
 
@@ -140,15 +140,15 @@ Carried NoSuchType = Unit {0}
 Carried (Values (sync s)) = s.counter < counters
 Carried (Values (fup f)) = f.ovs ≤ 3
 
-values-carried : (type : FrameType) (bytes : List ℕ) → Carried (values_of type bytes)
-values-carried PlainSync bytes = omega arith
-values-carried SecuredSync bytes = omega arith
-values-carried PlainFup bytes = omega arith
-values-carried SecuredFup bytes = omega arith
-values-carried no-type bytes = tt
+values_carried : (type : FrameType) (bytes : List ℕ) → Carried (values_of type bytes)
+values_carried PlainSync bytes = omega arith
+values_carried SecuredSync bytes = omega arith
+values_carried PlainFup bytes = omega arith
+values_carried SecuredFup bytes = omega arith
+values_carried no-type bytes = tt
 
-read-carried : (bytes : List ℕ) → Carried (read_of bytes)
-read-carried bytes = either Carried (eqb (length bytes) 8) (values-carried (type_of (get_or bytes 0 0)) bytes) tt
+read_carried : (bytes : List ℕ) → Carried (read_of bytes)
+read_carried bytes = either Carried (eqb (length bytes) 8) (values_carried (type_of (get_or bytes 0 0)) bytes) tt
 
 -- ---- the jump
 
@@ -166,14 +166,14 @@ once :
     (last + one) % counters ≡ (last + other) % counters → one ≡ other
 once last one other p q e = omega arith
 
-pub jump-leads : (last new : ℕ) → last < counters → new < counters → JumpExact last new
-jump-leads last new p q =
-    let arrived : Leads last new (jumpOf last new) =
-    record { below = omega arith; new-one = rw (jump-exact last new p q) (arrives last new p q) }
+pub jump_leads : (last new : ℕ) → last < counters → new < counters → JumpExact last new
+jump_leads last new p q =
+    let arrived : Leads last new (jump_of last new) =
+    record { below = omega arith; new_one = rw (jump_exact last new p q) (arrives last new p q) }
     in
     record {
       leads = arrived;
-      only = λ jump h. once last jump _ (omega arith) (omega arith) (h.new-one ∙ sym arrived.new-one);
+      only = λ jump h. once last jump _ (omega arith) (omega arith) (h.new_one ∙ sym arrived.new_one);
     }
 
 -- ---- what a good record holds, whatever its role
@@ -185,45 +185,45 @@ last_as Absent kept d g = rw (ap (λ (x : Domain). x.last) g) tt
 last_as Slave kept d g = g.last
 last_as Master kept d g = rw g.unknown tt
 
-pair-as :
+pair_as :
     (r : Role) (kept : VirtualLocalTime) (d : Domain) → RoleGood r kept d →
     PairWithin kept d.settings.follow_up_time d.settings.hysteresis d.last d.pairing
-pair-as Absent kept d g = rw (ap (λ (x : Domain). x.pairing) g) tt
-pair-as Slave kept d g = g.pair
-pair-as Master kept d g = rw g.waiting tt
+pair_as Absent kept d g = rw (ap (λ (x : Domain). x.pairing) g) tt
+pair_as Slave kept d g = g.pair
+pair_as Master kept d g = rw g.waiting tt
 
 module _ (i : ℕ) (kept : VirtualLocalTime) (d : Domain) (g : RecordGood i kept d) where
-  last-here : LastWithin kept d.settings.hysteresis d.last
-  last-here = last_as d.settings.role kept d g.role
+  last_here : LastWithin kept d.settings.hysteresis d.last
+  last_here = last_as d.settings.role kept d g.role
 
-  pub pair-here :
+  pub pair_here :
       (p : Pair) → d.pairing ≡ open-pair p →
       PairWithin kept d.settings.follow_up_time d.settings.hysteresis d.last (open-pair p)
-  pair-here p e =
+  pair_here p e =
       subst (PairWithin kept d.settings.follow_up_time d.settings.hysteresis d.last) e
-      (pair-as d.settings.role kept d g.role)
+      (pair_as d.settings.role kept d g.role)
 
   seen_here :
       (counter row : ℕ) (at : VirtualLocalTime) → d.last ≡ Seen counter row at →
       LastWithin kept d.settings.hysteresis (Seen counter row at)
-  seen_here counter row at e = subst (LastWithin kept d.settings.hysteresis) e last-here
+  seen_here counter row at e = subst (LastWithin kept d.settings.hysteresis) e last_here
 
   -- the open pair is the last SYNC's, or older than F
-  paired-before : (p : Pair) → d.pairing ≡ open-pair p → p.at.0 ≤ kept.0
-  paired-before p e =
-      ⊎_elim (λ own. pair-before kept d.settings.hysteresis d.last p own last-here)
-      (λ old. omega (arith, old)) (pair-here p e).1
+  paired_before : (p : Pair) → d.pairing ≡ open-pair p → p.at.0 ≤ kept.0
+  paired_before p e =
+      ⊎_elim (λ own. pair_before kept d.settings.hysteresis d.last p own last_here)
+      (λ old. omega (arith, old)) (pair_here p e).1
 
 -- ---- spans
 
 module _ (i : ℕ) (kept : VirtualLocalTime) (d : Domain) (g : RecordGood i kept d)
-    (in-range : kept.0 ≤ 1000000000000000000) where
-  pub held-before : (at : VirtualLocalTime) → HeldAt d at → at.0 ≤ kept.0
-  held-before at (of-base b e) = base-before i kept d g b e
-  held-before at (of-last counter row from e) = (seen_here i kept d g counter row from e).2
-  held-before at (of_pair p e) = paired-before i kept d g p e
-  held-before at (of-open counter seconds nanoseconds from e) = (sent-within i kept d g _ e).5
-  held-before at (of-confirmed from e) = (sent-within i kept d g _ e).2
+    (in_range : kept.0 ≤ 1000000000000000000) where
+  pub held_before : (at : VirtualLocalTime) → HeldAt d at → at.0 ≤ kept.0
+  held_before at (of_base b e) = base_before i kept d g b e
+  held_before at (of_last counter row from e) = (seen_here i kept d g counter row from e).2
+  held_before at (of_pair p e) = paired_before i kept d g p e
+  held_before at (of_open counter seconds nanoseconds from e) = (sent_within_lem i kept d g _ e).5
+  held_before at (of_confirmed from e) = (sent_within_lem i kept d g _ e).2
 
   -- ---- D
 
@@ -233,20 +233,20 @@ module _ (i : ℕ) (kept : VirtualLocalTime) (d : Domain) (g : RecordGood i kept
 
     pub joined-moved :
         (old : TimeBase) (p : Pair) (f : Fup) → d.base ≡ Set old → d.pairing ≡ open-pair p → f.ovs ≤ 3 →
-        f.nanoseconds ≤ 999999999 → MovedExact old (newBase p f) (movedBy old (newBase p f))
+        f.nanoseconds ≤ 999999999 → MovedExact old (new_base p f) (moved_by old (new_base p f))
     joined-moved old p f set there ovs ns =
-        let at = held-before p.at (of_pair p there) in
+        let at = held_before p.at (of_pair p there) in
         let first : BaseFirst d.pairing (Set old) = subst (BaseFirst d.pairing) set as-slave.first in
         let order : old.at.0 ≤ p.at.0 = subst (λ (q : Pairing). BaseFirst q (Set old)) there first in
-        let received = base-within i kept d g old set in
+        let received = base_within i kept d g old set in
         let within : p.at.0 ≤ 1000000000000000000 = omega arith in
-        let whole = (pair-here i kept d g p there).0 in
-        let new : IsReceived (newBase p f).time = received-bound p f (omega arith) ovs ns in
-        let read : IsRead (newBase p f).time = record { whole = omega (arith, new.whole); part = new.part } in
+        let whole = (pair_here i kept d g p there).0 in
+        let new : IsReceived (new_base p f).time = received_bound p f (omega arith) ovs ns in
+        let read : IsRead (new_base p f).time = record { whole = omega (arith, new.whole); part = new.part } in
         record {
-          time = omega (arith, time-exact old p.at received within);
+          time = omega (arith, time_exact old p.at received within);
           difference =
-              difference-read (newBase p f).time (timeAt old p.at) read (read-bound old p.at received within);
+              difference_read (new_base p f).time (time_at old p.at) read (read_bound old p.at received within);
         }
 
   module _ (t : VirtualLocalTime) (bytes : List ℕ) (moved : ℤ) where
@@ -255,154 +255,154 @@ module _ (i : ℕ) (kept : VirtualLocalTime) (d : Domain) (g : RecordGood i kept
 
     abbrev CallMoves : FrameAdmission → Type 0
     CallMoves a =
-        (frameCallAs a d kept t bytes).answer ≡ Updated moved →
-        Moves d.base (frameCallAs a d kept t bytes).domain.base moved
+        (frame_call_as a d kept t bytes).answer ≡ Updated moved →
+        Moves d.base (frame_call_as a d kept t bytes).domain.base moved
 
-    fup-moves :
+    fup_moves :
         d.settings.role ≡ Slave → (f : Fup) → f.ovs ≤ 3 → (p : Pair) →
         Joins d.settings.follow_up_time d.pairing t f p → (h : Held) → d.base ≡ h →
-        (updateIn d h (newBase p f)).answer ≡ Updated moved →
-        Moves d.base (Set (newBase p f)) moved
-    fup-moves is f ovs p told Unset was e = let no : ◌≡◌ {A = ℕ} 0 1 = cc in absurd (omega arith)
-    fup-moves is f ovs p told (Set old) was e =
-        let same : movedBy old (newBase p f) ≡ moved = cc in
+        (update_in d h (new_base p f)).answer ≡ Updated moved →
+        Moves d.base (Set (new_base p f)) moved
+    fup_moves is f ovs p told Unset was e = let no : ◌≡◌ {A = ℕ} 0 1 = cc in absurd (omega arith)
+    fup_moves is f ovs p told (Set old) was e =
+        let same : moved_by old (new_base p f) ≡ moved = cc in
         record {
           old = old;
-          new = newBase p f;
+          new = new_base p f;
           was = was;
           is = refl;
           exact =
-              subst (MovedExact old (newBase p f)) same
-              (joined-moved is old p f was told.held ovs told.in-range);
+              subst (MovedExact old (new_base p f)) same
+              (joined-moved is old p f was told.held ovs told.in_range);
         }
 
-    refused-step : (refusal : Refusal) → StepMoves (refusedOf d refusal)
+    refused-step : (refusal : Refusal) → StepMoves (refused_of d refusal)
     refused-step refusal e = let no : ◌≡◌ {A = ℕ} 0 1 = cc in absurd (omega arith)
 
-    sync-moves : (s : Sync) (k : RowCheck) → StepMoves (syncAs k d t s)
-    sync-moves s (NotGood row) e = let no : ◌≡◌ {A = ℕ} 0 1 = cc in absurd (omega arith)
-    sync-moves s (joins-row row) e = let no : ◌≡◌ {A = ℕ} 0 1 = cc in absurd (omega arith)
-    sync-moves s (Complete row) e = let no : ◌≡◌ {A = ℕ} 0 1 = cc in absurd (omega arith)
+    sync_moves : (s : Sync) (k : RowCheck) → StepMoves (sync_as k d t s)
+    sync_moves s (NotGood row) e = let no : ◌≡◌ {A = ℕ} 0 1 = cc in absurd (omega arith)
+    sync_moves s (joins-row row) e = let no : ◌≡◌ {A = ℕ} 0 1 = cc in absurd (omega arith)
+    sync_moves s (Complete row) e = let no : ◌≡◌ {A = ℕ} 0 1 = cc in absurd (omega arith)
 
-    kind-moves : d.settings.role ≡ Slave → (values : Frame) → Carried (Values values) → StepMoves (kind_of d t values)
-    kind-moves is (sync s) c = sync-moves s (checkFor d t s)
-    kind-moves is (fup f) c =
-        by-joined (λ (j : Joined). StepMoves (fupAs j d f)) d.settings.follow_up_time d.pairing t f
-        (refused-step _) (refused-step _) (refused-step _) (λ p told. fup-moves is f c p told d.base refl)
+    kind_moves : d.settings.role ≡ Slave → (values : Frame) → Carried (Values values) → StepMoves (kind_of d t values)
+    kind_moves is (sync s) c = sync_moves s (check_for d t s)
+    kind_moves is (fup f) c =
+        by_joined (λ (j : Joined). StepMoves (fup_as j d f)) d.settings.follow_up_time d.pairing t f
+        (refused-step _) (refused-step _) (refused-step _) (λ p told. fup_moves is f c p told d.base refl)
 
     refused-moves : (refusal : Refusal) → CallMoves (Refused refusal)
     refused-moves refusal e = let no : ◌≡◌ {A = ℕ} 0 1 = cc in absurd (omega arith)
 
-    read-moves : (r : Read) → Carried r → CallMoves (readFor r d.number d.settings.role)
+    read-moves : (r : Read) → Carried r → CallMoves (read_for r d.number d.settings.role)
     read-moves LengthNot8 c = refused-moves _
     read-moves NoSuchType c = refused-moves _
     read-moves (Values values) c =
-        either-told CallMoves (isFor d.number d.settings.role (domainIn values) slave)
+        either_told CallMoves (is_for d.number d.settings.role (domain_in values) slave)
         (λ for.
         let is =
-        slave-admitted d.settings.role
-        (both (eqb (domainIn values) d.number) (isIn d.settings.role slave) for).1
+        slave_admitted d.settings.role
+        (both (eqb (domain_in values) d.number) (is_in d.settings.role slave) for).1
         in
-        either StepMoves (is_taken d.settings.mode d.settings.ids bytes) (kind-moves is values c)
+        either StepMoves (is_taken d.settings.mode d.settings.ids bytes) (kind_moves is values c)
         (refused-step _))
         (λ e. refused-moves _)
 
     pub frame-moved :
-        (frameCallOf d kept t bytes).answer ≡ Updated moved →
-        Moves d.base (frameCallOf d kept t bytes).domain.base moved
+        (frame_call_of d kept t bytes).answer ≡ Updated moved →
+        Moves d.base (frame_call_of d kept t bytes).domain.base moved
     frame-moved =
-        either CallMoves (isGoodReading kept t) (read-moves (read_of bytes) (read-carried bytes)) (refused-moves _)
+        either CallMoves (is_good_reading kept t) (read-moves (read_of bytes) (read_carried bytes)) (refused-moves _)
 
 -- ---- times
 
 module _ (i : ℕ) (kept : VirtualLocalTime) (d : Domain) (g : RecordGood i kept d) (t : VirtualLocalTime) where
-  refused-shows :
+  refused_shows :
       (refusal : Refusal) (shown : Shown) → not-shown refusal ≡ Time shown → TimeOf d.base t shown.time
-  refused-shows refusal shown e = let no : ◌≡◌ {A = ℕ} 0 1 = cc in absurd (omega arith)
+  refused_shows refusal shown e = let no : ◌≡◌ {A = ℕ} 0 1 = cc in absurd (omega arith)
 
-  pub shown-exact :
-      (asked : ℕ) (shown : Shown) → readCallOf d kept asked t ≡ Time shown → TimeOf d.base t shown.time
-  shown-exact asked shown =
-      by-admission (λ (a : Admission). readCallAs a d t ≡ Time shown → TimeOf d.base t shown.time) kept t
+  pub shown_exact :
+      (asked : ℕ) (shown : Shown) → read_call_of d kept asked t ≡ Time shown → TimeOf d.base t shown.time
+  shown_exact asked shown =
+      by_admission (λ (a : Admission). read_call_as a d t ≡ Time shown → TimeOf d.base t shown.time) kept t
       d.number d.settings.role asked Either (λ tested. by-base tested d.base refl)
-      (refused-shows _ shown) (refused-shows _ shown)
+      (refused_shows _ shown) (refused_shows _ shown)
     where
       by-base :
-          Tested kept t d.settings.role Either → (h : Held) → d.base ≡ h → readAs h d t ≡ Time shown →
+          Tested kept t d.settings.role Either → (h : Held) → d.base ≡ h → read_as h d t ≡ Time shown →
           TimeOf d.base t shown.time
-      by-base tested Unset is e = refused-shows _ shown e
+      by-base tested Unset is e = refused_shows _ shown e
       by-base tested (Set b) is e =
-          let same : timeAt b t ≡ shown.time = cc in
+          let same : time_at b t ≡ shown.time = cc in
           record {
             base = b;
             is = is;
             exact =
                 subst (λ (g : GlobalTime). TimeExact b.time b.at g t) same
-                (time-exact-here i kept d g b t is tested.not-before tested.in-range);
+                (time_exact_here i kept d g b t is tested.not_before tested.in_range);
           }
 
-  pub sent-exact :
+  pub sent_exact :
       kept.0 ≤ t.0 → t.0 ≤ 1000000000000000000 → (seconds nanoseconds : ℕ) →
-      dueIn d t ≡ At seconds nanoseconds → TimeOf d.base t (record { 0 = seconds; 1 = nanoseconds })
-  sent-exact le in-range seconds nanoseconds =
-      by-due
+      due_in d t ≡ At seconds nanoseconds → TimeOf d.base t (record { 0 = seconds; 1 = nanoseconds })
+  sent_exact le in_range seconds nanoseconds =
+      by_due
       (λ (due : Due). due ≡ At seconds nanoseconds → TimeOf d.base t (record { 0 = seconds; 1 = nanoseconds }))
       d.settings.role d.settings.period d.base d.sending t
       (λ e. let no : ◌≡◌ {A = ℕ} 0 1 = cc in absurd (omega arith))
       (λ b told e.
-      let first : (timeAt b t).0 ≡ seconds = cc in
-      let second : (timeAt b t).1 ≡ nanoseconds = cc in
+      let first : (time_at b t).0 ≡ seconds = cc in
+      let second : (time_at b t).1 ≡ nanoseconds = cc in
       record {
         base = b;
         is = told.held;
-        exact = omega (arith, first, second, time-exact-here i kept d g b t told.held le in-range);
+        exact = omega (arith, first, second, time_exact_here i kept d g b t told.held le in_range);
       })
 
 -- ---- every reachable node
 
-not-before : (n : Node) (t : VirtualLocalTime) → Passes n t → n.kept.0 ≤ t.0
-not-before n t passes = let range = both (isReading t) _ passes in omega (arith, leb-true)
+not_before : (n : Node) (t : VirtualLocalTime) → Passes n t → n.kept.0 ≤ t.0
+not_before n t passes = let range = both (is_reading t) _ passes in omega (arith, leb-true)
 
 listed : (list : List ℕ) → eqb (length list) counters ≡ true → Listed list
 listed list e counter other h =
     let sixteen : length list ≡ counters = eqb-true _ _ e in
     rw (mod-eq_of_lt h) (get_d_any list counter 0 other (omega arith))
 
-pub caps-exact : (n : Node) → Reachable n → CapsExact n
-caps-exact n r =
-    let good = reachable-good n r in
+pub caps_exact : (n : Node) → Reachable n → CapsExact n
+caps_exact n r =
+    let good = reachable_good n r in
     record {
       spans =
           λ i h t at passes held.
           omega
-          (arith, not-before n t passes, held-before i n.kept _ (good.records i h) good.kept at held);
+          (arith, not_before n t passes, held_before i n.kept _ (good.records i h) good.kept at held);
       jumps =
           λ i h last row at seen bytes s e.
-          jump-leads last s.counter (seen_here i n.kept _ (good.records i h) last row at seen).0
-          (subst Carried e (read-carried bytes));
+          jump_leads last s.counter (seen_here i n.kept _ (good.records i h) last row at seen).0
+          (subst Carried e (read_carried bytes));
       joined =
           λ i h is old p set there bytes f e ns.
           joined-moved i n.kept _ (good.records i h) good.kept is old p f set there
-          (subst Carried e (read-carried bytes)) ns;
+          (subst Carried e (read_carried bytes)) ns;
       moved =
           λ t bytes moved e.
-          let at = addressedBy bytes in
-          rw (stored_at n at at _ (nodeFrameOf n t bytes).node.kept refl (rw good.sixteen (omega arith)))
+          let at = addressed_by bytes in
+          rw (stored_at n at at _ (node_frame_of n t bytes).node.kept refl (rw good.sixteen (omega arith)))
           (frame-moved at n.kept _ (good.records at (omega arith)) good.kept t bytes moved e);
       shown =
           λ domain t shown e.
-          shown-exact (domain % places) n.kept _ (good.records (domain % places) (omega arith)) t domain shown e;
+          shown_exact (domain % places) n.kept _ (good.records (domain % places) (omega arith)) t domain shown e;
       sent =
           λ i h t passes seconds nanoseconds e.
-          let range = good-reading n.kept t passes in
-          sent-exact i n.kept _ (good.records i h) t range.0 range.1 seconds nanoseconds e;
-      counter = λ i h. mod-eq_of_lt (omega (arith, next-counter-within i n.kept _ (good.records i h)));
+          let range = good_reading n.kept t passes in
+          sent_exact i n.kept _ (good.records i h) t range.0 range.1 seconds nanoseconds e;
+      counter = λ i h. mod-eq_of_lt (omega (arith, next_counter_within i n.kept _ (good.records i h)));
       round = mod-eq_of_lt (omega (arith, good.round));
       sixteen = good.sixteen;
-      place = λ bytes are. mod-eq_of_lt (omega (arith, byte-below bytes 2 are));
+      place = λ bytes are. mod-eq_of_lt (omega (arith, byte_below bytes 2 are));
       ids =
           λ i h.
-          let ids = (recordAt n.domains i).settings.ids in
+          let ids = (record_at n.domains i).settings.ids in
           let are = both _ _ (good.records i h).ids in
           (listed ids.sync are.0, listed ids.fup are.1);
     }
@@ -410,30 +410,30 @@ caps-exact n r =
 -- ---- the hypotheses can be met
 
 abbrev bench : Node
-bench = nodeAfterAll (newOf (benchWith 2)).node benchCalls
+bench = node_after_all (new_of (bench_with 2)).node bench_calls
 
 -- the slave's base, at the reading that is kept
-pub bench-span : SpanExact (record { 0 = 5000000000 }) bench.kept
+pub bench_span : SpanExact (record { 0 = 5000000000 }) bench.kept
 unfolding goes
-bench-span = (caps-exact bench bench-reached).spans 1 (omega arith) bench.kept _ refl (of-base _ bench-held)
+bench_span = (caps_exact bench bench_reached).spans 1 (omega arith) bench.kept _ refl (of_base _ bench_held)
 
 -- a SYNC of 3,603 s with counter 2 at 8 s, and its FUP of 200 ns 10 ms later: D is 100 ns
-abbrev nextSync : Call
-nextSync = frame (record { 0 = 8000000000 }) (0x10 ∷ 0 ∷ 0x12 ∷ 0 ∷ 0 ∷ 0 ∷ 0x0E ∷ 0x13 ∷ [])
+abbrev next_sync : Call
+next_sync = frame (record { 0 = 8000000000 }) (0x10 ∷ 0 ∷ 0x12 ∷ 0 ∷ 0 ∷ 0 ∷ 0x0E ∷ 0x13 ∷ [])
 
 abbrev paired : Node
-paired = nodeAfter bench nextSync
+paired = node_after bench next_sync
 
-abbrev nextFup : List ℕ
-nextFup = 0x18 ∷ 0 ∷ 0x12 ∷ 0 ∷ 0 ∷ 0 ∷ 0 ∷ 200 ∷ []
+abbrev next_fup : List ℕ
+next_fup = 0x18 ∷ 0 ∷ 0x12 ∷ 0 ∷ 0 ∷ 0 ∷ 0 ∷ 200 ∷ []
 
-pub bench-answer : (nodeFrameOf paired (record { 0 = 8010000000 }) nextFup).answer ≡ Updated (pos 100)
+pub bench_answer : (node_frame_of paired (record { 0 = 8010000000 }) next_fup).answer ≡ Updated (pos 100)
 unfolding goes
-bench-answer = refl
+bench_answer = refl
 
-pub bench-moved :
-    Moves (recordAt paired.domains 1).base
-    (recordAt (nodeFrameOf paired (record { 0 = 8010000000 }) nextFup).node.domains 1).base (pos 100)
-bench-moved =
-    (caps-exact paired (after bench bench-reached nextSync (is-call nextSync refl))).moved
-    (record { 0 = 8010000000 }) nextFup (pos 100) bench-answer
+pub bench_moved :
+    Moves (record_at paired.domains 1).base
+    (record_at (node_frame_of paired (record { 0 = 8010000000 }) next_fup).node.domains 1).base (pos 100)
+bench_moved =
+    (caps_exact paired (after bench bench_reached next_sync (is_call_lem next_sync refl))).moved
+    (record { 0 = 8010000000 }) next_fup (pos 100) bench_answer

@@ -5,6 +5,6 @@ use mathlib.Core.Path.{refl}
 use Rattle.round.specs.Round.{goes}
 use Rattle.node_laws.specs.Cases.{cases, AsExpected}
 
-pub proved-cases : AsExpected cases
+pub proved_cases : AsExpected cases
 unfolding goes
-proved-cases = (refl, (refl, (refl, (refl, (refl, (refl, tt))))))
+proved_cases = (refl, (refl, (refl, (refl, (refl, (refl, tt))))))

@@ -1,4 +1,4 @@
--- The hypotheses of `six-keeps`, `fifteen-keeps`, `stale-pair` and `taken-in-row` can be met: frames for a slave with
+-- The hypotheses of `six_keeps`, `fifteen_keeps`, `stale_pair` and `taken_in_row` can be met: frames for a slave with
 -- J 1, H 2, F 100 ns and L 1000 ns, and the whole node after them. No contract cites this file.
 --   row-settings-good   its settings are good
 --   row-reached         the node after any calls is reachable
@@ -18,91 +18,91 @@ use Rattle.frame_check.specs.declared.CheckMode.TheVariants.{NotValidated}
 use Rattle.settings.specs.declared.domain_settings.DomainSettings.{DomainSettings}
 use Rattle.settings.specs.declared.node_settings.NodeSettings.{NodeSettings}
 use Rattle.settings.specs.declared.node_settings.Verdict.TheVariants.{Good}
-use Rattle.settings.specs.Domain.{absentHeld, asSlave}
+use Rattle.settings.specs.Domain.{absent_held, as_slave}
 use Rattle.domain.specs.declared.LastSync.{LastSync}
 use Rattle.domain.specs.declared.LastSync.TheVariants.{Seen}
 use Rattle.domain.specs.declared.Pairing.{Pairing}
 use Rattle.domain.specs.declared.Pairing.TheVariants.{Waiting, Open}
 use Rattle.domain.specs.Fresh.{fresh_of}
-use Rattle.domain.specs.Fields.{withPairing, with_last}
+use Rattle.domain.specs.Fields.{with_pairing, with_last}
 use Rattle.node.specs.declared.Node.{Node}
-use Rattle.node.specs.New.{newOf}
-use Rattle.node.specs.Store.{storedIn}
-use Rattle.node_call.specs.Calls.{Call, frame, nodeAfter, nodeAfterAll, answerTo, number_in}
+use Rattle.node.specs.New.{new_of}
+use Rattle.node.specs.Store.{stored_in}
+use Rattle.node_call.specs.Calls.{Call, frame, node_after, node_after_all, answer_to, number_in}
 use Rattle.node_laws.specs.Reachable.{AreCalls, Reachable, new}
-use Rattle.node_laws.specs.InRow.{Heard, accepted, refused, heardIn}
+use Rattle.node_laws.specs.InRow.{Heard, accepted, refused, heard_in}
 use Rattle.node_laws.proofs.Witness.{reaches}
 
-abbrev rowSlave : DomainSettings
-rowSlave = asSlave 1 2 100 1000 0 0 1 NotValidated absentHeld.ids
+abbrev row_slave : DomainSettings
+row_slave = as_slave 1 2 100 1000 0 0 1 NotValidated absent_held.ids
 
-abbrev rowSettings : NodeSettings
-rowSettings = record { syncs_per_cycle = 1; domains = absentHeld ∷ rowSlave ∷ replicate 14 absentHeld }
+abbrev row_settings : NodeSettings
+row_settings = record { syncs_per_cycle = 1; domains = absent_held ∷ row_slave ∷ replicate 14 absent_held }
 
-pub row-settings-good : (newOf rowSettings).verdict ≡ Good
-row-settings-good = refl
+pub row_settings_good : (new_of row_settings).verdict ≡ Good
+row_settings_good = refl
 
 -- ---- a plain SYNC of 100 seconds for domain 1; the node after such frames
 
 abbrev reading : ℕ → VirtualLocalTime
 reading t = record { 0 = t }
 
-abbrev syncAt : (t counter : ℕ) → Call
-syncAt t counter = frame (reading t) (0x10 ∷ 0 ∷ (0x10 + counter) ∷ 0 ∷ 0 ∷ 0 ∷ 0 ∷ 100 ∷ [])
+abbrev sync_at : (t counter : ℕ) → Call
+sync_at t counter = frame (reading t) (0x10 ∷ 0 ∷ (0x10 + counter) ∷ 0 ∷ 0 ∷ 0 ∷ 0 ∷ 100 ∷ [])
 
 abbrev after : List Call → Node
-after calls = nodeAfterAll (newOf rowSettings).node calls
+after calls = node_after_all (new_of row_settings).node calls
 
-pub row-reached : (calls : List Call) → AreCalls calls → Reachable (after calls)
-row-reached = reaches (newOf rowSettings).node (new rowSettings refl)
+pub row_reached : (calls : List Call) → AreCalls calls → Reachable (after calls)
+row_reached = reaches (new_of row_settings).node (new row_settings refl)
 
 -- ---- the fresh node but for a pairing, a SYNC accepted last, and a kept reading
 
 abbrev standing : Pairing → LastSync → (kept : ℕ) → Node
 standing pairing last kept =
-    storedIn (newOf rowSettings).node 1 (with_last (withPairing (fresh_of 1 rowSlave) pairing) last) (reading kept)
+    stored_in (new_of row_settings).node 1 (with_last (with_pairing (fresh_of 1 row_slave) pairing) last) (reading kept)
 
 -- ---- the answer to a frame after others, and the node that it leaves
 
 abbrev Leaves : (before : List Call) → Call → (number : ℕ) → Node → Type 0
-Leaves before c number n = (number_in (answerTo (after before) c) ≡ number) × (nodeAfter (after before) c ≡ n)
+Leaves before c number n = (number_in (answer_to (after before) c) ≡ number) × (node_after (after before) c ≡ n)
 
 abbrev two : List Call
-two = syncAt 10 5 ∷ syncAt 20 6 ∷ []
+two = sync_at 10 5 ∷ sync_at 20 6 ∷ []
 
 abbrev three : List Call
-three = syncAt 10 5 ∷ syncAt 20 6 ∷ syncAt 30 7 ∷ []
+three = sync_at 10 5 ∷ sync_at 20 6 ∷ sync_at 30 7 ∷ []
 
-abbrev pairOfSeven : Pairing
-pairOfSeven = Open (record { at = reading 30; seconds = 100; counter = 7; user0 = 0; user1 = 0 })
+abbrev pair_of_seven : Pairing
+pair_of_seven = Open (record { at = reading 30; seconds = 100; counter = 7; user0 = 0; user1 = 0 })
 
-pub fifteen-met : Leaves (syncAt 10 5 ∷ []) (syncAt 20 6) 15 (standing Waiting (Seen 6 1 (reading 20)) 20)
-fifteen-met = (refl, refl)
+pub fifteen_met : Leaves (sync_at 10 5 ∷ []) (sync_at 20 6) 15 (standing Waiting (Seen 6 1 (reading 20)) 20)
+fifteen_met = (refl, refl)
 
-pub six-met : Leaves two (syncAt 30 9) 6 (standing Waiting (Seen 6 0 (reading 20)) 20)
-six-met = (refl, refl)
+pub six_met : Leaves two (sync_at 30 9) 6 (standing Waiting (Seen 6 0 (reading 20)) 20)
+six_met = (refl, refl)
 
-pub six-complete-met : Leaves three (syncAt 40 11) 6 (standing pairOfSeven (Seen 7 2 (reading 30)) 30)
-six-complete-met = (refl, refl)
+pub six_complete_met : Leaves three (sync_at 40 11) 6 (standing pair_of_seven (Seen 7 2 (reading 30)) 30)
+six_complete_met = (refl, refl)
 
-pub fifteen-open-met : Leaves three (syncAt 1031 2) 15 (standing pairOfSeven (Seen 2 0 (reading 1031)) 1031)
-fifteen-open-met = (refl, refl)
+pub fifteen_open_met : Leaves three (sync_at 1031 2) 15 (standing pair_of_seven (Seen 2 0 (reading 1031)) 1031)
+fifteen_open_met = (refl, refl)
 
 -- ---- a FUP that is taken, with what was heard before it
 
-abbrev fupAt : (t counter : ℕ) → Call
-fupAt t counter = frame (reading t) (0x18 ∷ 0 ∷ (0x10 + counter) ∷ 0 ∷ 0 ∷ 0 ∷ 0 ∷ 7 ∷ [])
+abbrev fup_at : (t counter : ℕ) → Call
+fup_at t counter = frame (reading t) (0x18 ∷ 0 ∷ (0x10 + counter) ∷ 0 ∷ 0 ∷ 0 ∷ 0 ∷ 7 ∷ [])
 
 abbrev TakenAfter : (before : List Call) → Call → List Heard → Type 0
 TakenAfter before c heard =
-    (number_in (answerTo (after before) c) ≡ 0) × (heardIn 1 (newOf rowSettings).node before [] ≡ heard)
+    (number_in (answer_to (after before) c) ≡ 0) × (heard_in 1 (new_of row_settings).node before [] ≡ heard)
 
-pub taken-met :
-    TakenAfter three (fupAt 40 7)
+pub taken_met :
+    TakenAfter three (fup_at 40 7)
     (accepted 7 (reading 30) ∷ accepted 6 (reading 20) ∷ accepted 5 (reading 10) ∷ [])
-taken-met = (refl, refl)
+taken_met = (refl, refl)
 
-pub taken-later-met :
-    TakenAfter (syncAt 10 5 ∷ syncAt 20 6 ∷ syncAt 1020 7 ∷ syncAt 1030 11 ∷ []) (fupAt 1040 7)
+pub taken_later_met :
+    TakenAfter (sync_at 10 5 ∷ sync_at 20 6 ∷ sync_at 1020 7 ∷ sync_at 1030 11 ∷ []) (fup_at 1040 7)
     (refused ∷ accepted 7 (reading 1020) ∷ accepted 6 (reading 20) ∷ accepted 5 (reading 10) ∷ [])
-taken-later-met = (refl, refl)
+taken_later_met = (refl, refl)

@@ -16,14 +16,14 @@ use Rattle.clock.specs.Reading.{span_of}
 use Rattle.frame.specs.declared.values.Fup.{Fup}
 use Rattle.frame.specs.declared.values.Frame.TheVariants.{Fup as fup}
 use Rattle.frame.specs.Types.{type_of}
-use Rattle.frame.specs.ByteTwo.{counterOf}
+use Rattle.frame.specs.ByteTwo.{counter_of}
 use Rattle.frame_read.specs.declared.Read.{Read}
 use Rattle.frame_read.specs.declared.Read.TheVariants.{Values, LengthNot8}
-use Rattle.frame_read.specs.Read.{namedDomain, values_of}
+use Rattle.frame_read.specs.Read.{named_domain, values_of}
 use Rattle.frame_check.specs.Check.{is_taken}
 use Rattle.admission.specs.declared.Needed.TheVariants.{Slave}
-use Rattle.admission.specs.Reading.{isGoodReading}
-use Rattle.admission.proofs.Laws.{good-reading}
+use Rattle.admission.specs.Reading.{is_good_reading}
+use Rattle.admission.proofs.Laws.{good_reading}
 use Rattle.domain.specs.declared.Domain.{Domain}
 use Rattle.domain.specs.declared.Pair.{Pair}
 use Rattle.domain.specs.declared.Pairing.{Pairing}
@@ -32,24 +32,24 @@ use Rattle.domain.specs.declared.LastSync.{LastSync}
 use Rattle.domain.specs.declared.LastSync.TheVariants.{Unknown, Seen}
 use Rattle.domain.specs.Fields.{with_last}
 use Rattle.node.specs.declared.Node.{Node}
-use Rattle.node.specs.New.{newOf}
-use Rattle.node.specs.Frame.{addressedBy}
-use Rattle.node_call.specs.Calls.{frame, nodeAfter, nodeAfterAll}
+use Rattle.node.specs.New.{new_of}
+use Rattle.node.specs.Frame.{addressed_by}
+use Rattle.node_call.specs.Calls.{frame, node_after, node_after_all}
 use Rattle.node_laws.specs.Reachable.{Reachable, new, after}
 use Rattle.node_laws.specs.Good.{OfLast, RecordGood}
-use Rattle.node_laws.specs.Tests.{first_of, noType, notFor, noOpenPair, notThePairs, kindTests}
+use Rattle.node_laws.specs.Tests.{first_of, no_type, not_for, no_open_pair, not_the_pairs, kind_tests}
 use Rattle.node_laws.specs.Excepted.{named}
-use Rattle.node_laws.specs.InRow.{Heard, heardIn, RowCame, LastAccepted, AfterRow, TakenInRow, StalePair}
-use Rattle.node_laws.proofs.Reachable.{reachable-good}
+use Rattle.node_laws.specs.InRow.{Heard, heard_in, RowCame, LastAccepted, AfterRow, TakenInRow, StalePair}
+use Rattle.node_laws.proofs.Reachable.{reachable_good}
 use Rattle.node_laws.proofs.Laws.{stored_at}
 use Rattle.node_laws.proofs.Order.{order}
-use Rattle.node_laws.proofs.Excepted.{fifteen-keeps}
-use Rattle.node_laws.proofs.Caps.{pair-here}
+use Rattle.node_laws.proofs.Excepted.{fifteen_keeps}
+use Rattle.node_laws.proofs.Caps.{pair_here}
 use Rattle.node_laws.proofs.Witness.{reaches}
-use Rattle.node_laws.proofs.Heard.{Holds, Held, heard-held}
+use Rattle.node_laws.proofs.Heard.{Holds, Held, heard_held}
 
-here : (n : Node) → Reachable n → (bytes : List ℕ) → RecordGood (addressedBy bytes) n.kept (named n bytes)
-here n r bytes = (reachable-good n r).records (addressedBy bytes) (omega arith)
+here : (n : Node) → Reachable n → (bytes : List ℕ) → RecordGood (addressed_by bytes) n.kept (named n bytes)
+here n r bytes = (reachable_good n r).records (addressed_by bytes) (omega arith)
 
 -- ---- no test gives its number
 
@@ -69,10 +69,10 @@ own_at :
 own_at kept t most h last p le near (inl own) = own
 own_at kept t most h last p le near (inr old) = absurd (omega (arith, le, near, old))
 
-same-last :
+same_last :
     (counter other : ℕ) (at from : VirtualLocalTime) (heard : List Heard) → counter ≡ other → at ≡ from →
     LastAccepted counter at heard → LastAccepted other from heard
-same-last counter other at from heard same there is =
+same_last counter other at from heard same there is =
     subst (λ (c : ℕ). LastAccepted c from heard) same
     (subst (λ (r : VirtualLocalTime). LastAccepted counter r heard) there is)
 
@@ -81,7 +81,7 @@ came :
     LastAccepted p.counter p.at heard × RowCame j l h heard
 came j l h Unknown p heard own held = absurd own
 came j l h (Seen counter row at) p heard own held =
-    (same-last counter p.counter at p.at heard own.0 own.1 held.0, held.2 own.2)
+    (same_last counter p.counter at p.at heard own.0 own.1 held.0, held.2 own.2)
 
 module _ (n : Node) (r : Reachable n) (t : VirtualLocalTime) (bytes : List ℕ) (f : Fup) (heard : List Heard)
     (le : n.kept.0 ≤ t.0) (held : Held (named n bytes) heard) where
@@ -89,60 +89,60 @@ module _ (n : Node) (r : Reachable n) (t : VirtualLocalTime) (bytes : List ℕ) 
   d = named n bytes
 
   found :
-      (pairing : Pairing) → d.pairing ≡ pairing → noOpenPair d.settings.follow_up_time pairing t ≡ false →
-      notThePairs pairing f ≡ false → AfterRow d.settings t f heard
+      (pairing : Pairing) → d.pairing ≡ pairing → no_open_pair d.settings.follow_up_time pairing t ≡ false →
+      not_the_pairs pairing f ≡ false → AfterRow d.settings t f heard
   found Waiting is e same = let no : ◌≡◌ {A = ℕ} 0 1 = cc in absurd (omega arith)
   found (Open p) is e same =
       let near = ltb-false _ _ e in
       let own =
       own_at n.kept t _ _ d.last p le near
-      (pair-here (addressedBy bytes) n.kept d (here n r bytes) p is).1 in
+      (pair_here (addressed_by bytes) n.kept d (here n r bytes) p is).1 in
       let row = came _ _ _ d.last p heard own held in
       let counter = eqb-true f.counter p.counter (is_true _ same) in
       record {
         at = p.at;
-        last = same-last p.counter f.counter p.at p.at heard (sym counter) refl row.0;
+        last = same_last p.counter f.counter p.at p.at heard (sym counter) refl row.0;
         soon = near;
         row = row.1;
       }
 
-pub taken-in-row : TakenInRow
-taken-in-row s is-settings cs are t bytes f reads e =
-    let fresh = (newOf s).node in
-    let n = nodeAfterAll fresh cs in
+pub taken_in_row : TakenInRow
+taken_in_row s is-settings cs are t bytes f reads e =
+    let fresh = (new_of s).node in
+    let n = node_after_all fresh cs in
     let d = named n bytes in
     let values = values_of (type_of (get_or bytes 0 0)) bytes in
     let one = passed _ 1 _ refl (sym (order n (frame t bytes)) ∙ e) in
     let two = passed _ 2 _ refl one.1 in
-    let three = passed (noType (type_of (get_or bytes 0 0))) 3 _ refl two.1 in
-    let four = passed (notFor d (namedDomain bytes) Slave) 4 _ refl three.1 in
+    let three = passed (no_type (type_of (get_or bytes 0 0))) 3 _ refl two.1 in
+    let four = passed (not_for d (named_domain bytes) Slave) 4 _ refl three.1 in
     let five = passed (not (is_taken d.settings.mode d.settings.ids bytes)) 5 _ refl four.1 in
     let eight = is_true (eqb (length bytes) 8) two.0 in
     let is : values ≡ Values (fup f) =
     subst (λ (b : Bool). cond b values LengthNot8 ≡ Values (fup f)) eight reads in
-    let tests = subst (λ (v : Read). first_of (kindTests v d t) ≡ 0) is five.1 in
-    let le = (good-reading n.kept t (is_true (isGoodReading n.kept t) one.0)).0 in
+    let tests = subst (λ (v : Read). first_of (kind_tests v d t) ≡ 0) is five.1 in
+    let le = (good_reading n.kept t (is_true (is_good_reading n.kept t) one.0)).0 in
     let seven = passed _ 7 _ refl tests in
     let same = passed _ 8 _ refl seven.1 in
-    found n (reaches fresh (new s is-settings) cs are) t bytes f (heardIn (addressedBy bytes) fresh cs []) le
-    (heard-held s cs (addressedBy bytes)) d.pairing refl seven.0 same.0
+    found n (reaches fresh (new s is-settings) cs are) t bytes f (heard_in (addressed_by bytes) fresh cs []) le
+    (heard_held s cs (addressed_by bytes)) d.pairing refl seven.0 same.0
 
 -- ---- under 15
 
-pub stale-pair : StalePair
-stale-pair n r t bytes are e p is =
-    let next = nodeAfter n (frame t bytes) in
-    let next-good = here next (after n r (frame t bytes) are) bytes in
-    let joined = fifteen-keeps n t bytes e in
-    let there : addressedBy bytes < length n.domains = omega (arith, (reachable-good n r).sixteen) in
+pub stale_pair : StalePair
+stale_pair n r t bytes are e p is =
+    let next = node_after n (frame t bytes) in
+    let next_good = here next (after n r (frame t bytes) are) bytes in
+    let joined = fifteen_keeps n t bytes e in
+    let there : addressed_by bytes < length n.domains = omega (arith, (reachable_good n r).sixteen) in
     let stored =
     ap (λ (m : Node). named m bytes) joined.is
-    ∙ stored_at n (addressedBy bytes) (addressedBy bytes) _ t refl there in
-    by next joined.row joined.below stored (pair-here (addressedBy bytes) next.kept _ next-good p is).1
+    ∙ stored_at n (addressed_by bytes) (addressed_by bytes) _ t refl there in
+    by next joined.row joined.below stored (pair_here (addressed_by bytes) next.kept _ next_good p is).1
   where
     by :
         (next : Node) (row : ℕ) → row < (named n bytes).settings.hysteresis →
-        named next bytes ≡ with_last (named n bytes) (Seen (counterOf (get_or bytes 2 0)) row t) →
+        named next bytes ≡ with_last (named n bytes) (Seen (counter_of (get_or bytes 2 0)) row t) →
         OfLast (named next bytes).settings.hysteresis (named next bytes).last p
         ⊎ ((named next bytes).settings.follow_up_time < span_of p.at next.kept) →
         (named next bytes).settings.follow_up_time < span_of p.at next.kept

@@ -6,20 +6,20 @@
 use Prim.Native.Nat.{ℕ}
 use mathlib.Core.Path.{◌≡◌, refl, ◌∙◌}
 use mathlib.Core.List.{List, [], ◌∷◌}
-use Rattle.domain.specs.Records.{recordAt}
+use Rattle.domain.specs.Records.{record_at}
 use Rattle.node.specs.declared.Node.{Node}
-use Rattle.node_call.specs.Calls.{Call, nodeAfter, nodeAfterAll, answerTo}
+use Rattle.node_call.specs.Calls.{Call, node_after, node_after_all, answer_to}
 use Rattle.node_laws.specs.Apart.{Own, AllElsewhere, keeping}
-use Rattle.node_laws.proofs.Laws.{other-domains, own-domain}
+use Rattle.node_laws.proofs.Laws.{other_domains, own_domain}
 
 pub others_keep :
     (n : Node) (cs : List Call) (i : ℕ) → AllElsewhere n cs i →
-    recordAt (nodeAfterAll n cs).domains i ≡ recordAt n.domains i
+    record_at (node_after_all n cs).domains i ≡ record_at n.domains i
 others_keep n [] i e = refl
-others_keep n (c ∷ rest) i e = others_keep (nodeAfter n c) rest i e.1 ∙ other-domains n c i e.0
+others_keep n (c ∷ rest) i e = others_keep (node_after n c) rest i e.1 ∙ other_domains n c i e.0
 
 pub independent :
     (n : Node) (cs : List Call) (c : Call) (i : ℕ) → AllElsewhere n cs i → Own c i →
-    answerTo (nodeAfterAll n cs) c ≡ answerTo (keeping n (nodeAfterAll n cs).kept) c
+    answer_to (node_after_all n cs) c ≡ answer_to (keeping n (node_after_all n cs).kept) c
 independent n cs c i e o =
-    own-domain (nodeAfterAll n cs) (keeping n (nodeAfterAll n cs).kept) c i o (others_keep n cs i e) refl
+    own_domain (node_after_all n cs) (keeping n (node_after_all n cs).kept) c i o (others_keep n cs i e) refl

@@ -20,32 +20,32 @@ use Rattle.domain.specs.declared.Sending.TheVariants.{Never, Open, Confirmed}
 use Rattle.node_laws.specs.Good.{HeldWithin, LastWithin, PairWithin, SentWithin, RoleGood, RecordGood}
 
 module _ (kept kept' : VirtualLocalTime) (le : kept.0 ≤ kept'.0) where
-  held-later : (most : ℕ) (b : Held) → HeldWithin most kept b → HeldWithin most kept' b
-  held-later most Unset h = h
-  held-later most (Set b) h = (h.0, h.1, omega arith)
+  held_later : (most : ℕ) (b : Held) → HeldWithin most kept b → HeldWithin most kept' b
+  held_later most Unset h = h
+  held_later most (Set b) h = (h.0, h.1, omega arith)
 
-  last-later : (h : ℕ) (last : LastSync) → LastWithin kept h last → LastWithin kept' h last
-  last-later h Unknown w = w
-  last-later h (Seen counter row at) w = (w.0, w.1, omega arith)
+  last_later : (h : ℕ) (last : LastSync) → LastWithin kept h last → LastWithin kept' h last
+  last_later h Unknown w = w
+  last_later h (Seen counter row at) w = (w.0, w.1, omega arith)
 
-  pair-later :
+  pair_later :
       (f h : ℕ) (last : LastSync) (p : Pairing) → PairWithin kept f h last p → PairWithin kept' f h last p
-  pair-later f h last Waiting w = tt
-  pair-later f h last (open-pair p) (whole, inl own) = (whole, inl own)
-  pair-later f h last (open-pair p) (whole, inr old) = (whole, inr (omega (arith, old)))
+  pair_later f h last Waiting w = tt
+  pair_later f h last (open-pair p) (whole, inl own) = (whole, inl own)
+  pair_later f h last (open-pair p) (whole, inr old) = (whole, inr (omega (arith, old)))
 
-  sent-later : (b : Held) (next : ℕ) (s : Sending) → SentWithin kept b next s → SentWithin kept' b next s
-  sent-later b next Never h = h
-  sent-later b next (Open counter seconds nanoseconds at) (set, c, n, s, ns, a) = (set, c, n, s, ns, omega arith)
-  sent-later b next (Confirmed at) (set, n, a) = (set, n, omega arith)
+  sent_later : (b : Held) (next : ℕ) (s : Sending) → SentWithin kept b next s → SentWithin kept' b next s
+  sent_later b next Never h = h
+  sent_later b next (Open counter seconds nanoseconds at) (set, c, n, s, ns, a) = (set, c, n, s, ns, omega arith)
+  sent_later b next (Confirmed at) (set, n, a) = (set, n, omega arith)
 
-  role-later : (r : Role) (d : Domain) → RoleGood r kept d → RoleGood r kept' d
-  role-later Absent d g = g
-  role-later Slave d g =
+  role_later : (r : Role) (d : Domain) → RoleGood r kept d → RoleGood r kept' d
+  role_later Absent d g = g
+  role_later Slave d g =
       record {
-        base = held-later _ d.base g.base;
-        last = last-later _ d.last g.last;
-        pair = pair-later _ _ d.last d.pairing g.pair;
+        base = held_later _ d.base g.base;
+        last = last_later _ d.last g.last;
+        pair = pair_later _ _ d.last d.pairing g.pair;
         order = g.order;
         first = g.first;
         blank = g.blank;
@@ -53,10 +53,10 @@ module _ (kept kept' : VirtualLocalTime) (le : kept.0 ≤ kept'.0) where
         never = g.never;
         next = g.next;
       }
-  role-later Master d g =
+  role_later Master d g =
       record {
-        base = held-later _ d.base g.base;
-        sent = sent-later d.base d.next_counter d.sending g.sent;
+        base = held_later _ d.base g.base;
+        sent = sent_later d.base d.next_counter d.sending g.sent;
         blank = g.blank;
         waiting = g.waiting;
         unknown = g.unknown;
@@ -70,10 +70,10 @@ later i kept kept' d le g =
     record {
       number = g.number;
       settings = g.settings;
-      settings-held = g.settings-held;
+      settings_held = g.settings_held;
       ids = g.ids;
       updates = g.updates;
-      role = role-later kept kept' le d.settings.role d g.role;
+      role = role_later kept kept' le d.settings.role d g.role;
     }
 
 -- ---- a kept reading that only grows, in its range
@@ -81,5 +81,5 @@ later i kept kept' d le g =
 abbrev pub Grows : VirtualLocalTime → VirtualLocalTime → Type 0
 Grows kept after = (kept.0 ≤ after.0) × (kept.0 ≤ 1000000000000000000 → after.0 ≤ 1000000000000000000)
 
-pub kept-stays : (kept : VirtualLocalTime) → Grows kept kept
-kept-stays kept = (omega arith, λ h. h)
+pub kept_stays : (kept : VirtualLocalTime) → Grows kept kept
+kept_stays kept = (omega arith, λ h. h)

@@ -10,115 +10,115 @@ use native.Mathlib.Omega.{arith}
 use lib.Dec.{leb, eqb}
 use borrow.Author.Tests.{leb-true}
 use Rattle.frame.specs.ByteTwo.{counters}
-use Rattle.promise.proofs.Tests.{either, either-told}
+use Rattle.promise.proofs.Tests.{either, either_told}
 use Rattle.clock.specs.declared.reading.VirtualLocalTime.{VirtualLocalTime}
 use Rattle.clock.specs.declared.base.TimeBase.{TimeBase}
 use Rattle.clock.specs.declared.base.Held.{Held}
 use Rattle.clock.specs.declared.base.Held.TheVariants.{Unset, Set}
 use Rattle.clock.specs.Reading.{span_of}
-use Rattle.clock.specs.Base.{timeAt}
-use Rattle.clock.proofs.Laws.{advance-good}
+use Rattle.clock.specs.Base.{time_at}
+use Rattle.clock.proofs.Laws.{advance_good}
 use Rattle.settings.specs.declared.domain_settings.Role.{Role}
 use Rattle.settings.specs.declared.domain_settings.Role.TheVariants.{Master}
 use Rattle.domain.specs.declared.Domain.{Domain}
 use Rattle.domain.specs.declared.Sending.{Sending}
 use Rattle.domain.specs.declared.Sending.TheVariants.{Never, Open, Confirmed}
-use Rattle.domain.proofs.Laws.{update-bound}
+use Rattle.domain.proofs.Laws.{update_bound}
 use Rattle.admission.specs.declared.Needed.TheVariants.{Master as master}
 use Rattle.admission.specs.declared.Admission.{Admission}
-use Rattle.admission.proofs.Laws.{by-admission, master-admitted}
+use Rattle.admission.proofs.Laws.{by_admission, master_admitted}
 use Rattle.master_rules.specs.declared.due.Due.{Due}
 use Rattle.master_follow.specs.declared.Follow.{Follow}
-use Rattle.master_rules.proofs.Laws.{by-due}
-use Rattle.master_follow.proofs.Laws.{by-follow}
+use Rattle.master_rules.proofs.Laws.{by_due}
+use Rattle.master_follow.proofs.Laws.{by_follow}
 use Rattle.master_set.specs.declared.SetStep.{SetStep}
-use Rattle.master_set.specs.Set.{withTime}
-use Rattle.master_send.specs.Send.{sentOf, sendAs, sendOf}
-use Rattle.master_confirm.specs.Confirm.{confirmNumber, confirmAs, confirmOf}
+use Rattle.master_set.specs.Set.{with_time}
+use Rattle.master_send.specs.Send.{sent_of, send_as, send_of}
+use Rattle.master_confirm.specs.Confirm.{confirm_number, confirm_as, confirm_of}
 use Rattle.call_set.specs.declared.SetCall.{SetCall}
-use Rattle.call_set.specs.SetCall.{setStepped, setCallAs, setCallOf}
+use Rattle.call_set.specs.SetCall.{set_stepped, set_call_as, set_call_of}
 use Rattle.call_confirm.specs.declared.ConfirmCall.{ConfirmCall}
-use Rattle.call_confirm.specs.ConfirmCall.{confirmStepped, confirmCallAs, confirmCallOf}
+use Rattle.call_confirm.specs.ConfirmCall.{confirm_stepped, confirm_call_as, confirm_call_of}
 use Rattle.node_laws.specs.Good.{Blank, BaseSet, SentWithin, MasterGood, RoleGood, RecordGood}
-use Rattle.node_laws.proofs.Later.{later, Grows, kept-stays}
+use Rattle.node_laws.proofs.Later.{later, Grows, kept_stays}
 
 -- ---- a good record in the master's role
 
-as-master :
+as_master_lem :
     (i : ℕ) (kept : VirtualLocalTime) (d : Domain) → d.settings.role ≡ Master → RecordGood i kept d →
     MasterGood kept d
-as-master i kept d e g = subst (λ (r : Role). RoleGood r kept d) e g.role
+as_master_lem i kept d e g = subst (λ (r : Role). RoleGood r kept d) e g.role
 
 -- ---- set
 
-still-set :
+still_set :
     (kept : VirtualLocalTime) (base base' : Held) (next : ℕ) (s : Sending) → BaseSet base' →
     SentWithin kept base next s → SentWithin kept base' next s
-still-set kept base base' next Never is h = h
-still-set kept base base' next (Open counter seconds nanoseconds at) is h = (is, h.1, h.2, h.3, h.4, h.5)
-still-set kept base base' next (Confirmed at) is h = (is, h.1, h.2)
+still_set kept base base' next Never is h = h
+still_set kept base base' next (Open counter seconds nanoseconds at) is h = (is, h.1, h.2, h.3, h.4, h.5)
+still_set kept base base' next (Confirmed at) is h = (is, h.1, h.2)
 
 module _ (i : ℕ) (t : VirtualLocalTime) (s ns : ℕ) (d : Domain) (fits : s < 4294967296) (good : ns ≤ 999999999)
     (e : d.settings.role ≡ Master) (g : RecordGood i t d) where
-  abbrev set-one : Domain
-  set-one = withTime d (record { 0 = s; 1 = ns }) t
+  abbrev set_one : Domain
+  set_one = with_time d (record { 0 = s; 1 = ns }) t
 
-  set-master : MasterGood t set-one
-  set-master =
-      let m = as-master i t d e g in
+  set_master : MasterGood t set_one
+  set_master =
+      let m = as_master_lem i t d e g in
       record {
         base = (omega arith, good, omega arith);
-        sent = still-set t d.base set-one.base d.next_counter d.sending tt m.sent;
+        sent = still_set t d.base set_one.base d.next_counter d.sending tt m.sent;
         blank = tt;
         waiting = m.waiting;
         unknown = m.unknown;
         stored = m.stored;
       }
 
-  set-record : RecordGood i t set-one
-  set-record =
+  set_record : RecordGood i t set_one
+  set_record =
       record {
         number = g.number;
         settings = g.settings;
-        settings-held = g.settings-held;
+        settings_held = g.settings_held;
         ids = g.ids;
-        updates = update-bound d.updates;
-        role = subst (λ (r : Role). RoleGood r t set-one) (sym e) set-master;
+        updates = update_bound d.updates;
+        role = subst (λ (r : Role). RoleGood r t set_one) (sym e) set_master;
       }
 
 abbrev SetGood : ℕ → SetCall → Type 0
 SetGood i r = RecordGood i r.kept r.domain
 
-pub set-good :
+pub set_good :
     (i : ℕ) (kept : VirtualLocalTime) (asked : ℕ) (t : VirtualLocalTime) (s ns : ℕ) (d : Domain) →
     s < 4294967296 → RecordGood i kept d →
-    RecordGood i (setCallOf d kept asked t s ns).kept (setCallOf d kept asked t s ns).domain
-set-good i kept asked t s ns d fits g =
-    by-admission (λ (a : Admission). SetGood i (setCallAs a d kept t s ns)) kept t d.number d.settings.role
+    RecordGood i (set_call_of d kept asked t s ns).kept (set_call_of d kept asked t s ns).domain
+set_good i kept asked t s ns d fits g =
+    by_admission (λ (a : Admission). SetGood i (set_call_as a d kept t s ns)) kept t d.number d.settings.role
     asked master
     (λ tested.
-    either-told (λ (x : SetStep). SetGood i (setStepped x kept t)) (leb ns 999999999)
+    either_told (λ (x : SetStep). SetGood i (set_stepped x kept t)) (leb ns 999999999)
     (λ e.
-    set-record i t s ns d fits (leb-true _ _ e) (master-admitted d.settings.role tested.in-role)
-    (later i kept t d tested.not-before g))
+    set_record i t s ns d fits (leb-true _ _ e) (master_admitted d.settings.role tested.in_role)
+    (later i kept t d tested.not_before g))
     (λ e. g))
     g g
 
-pub set-kept :
+pub set_kept :
     (kept : VirtualLocalTime) (asked : ℕ) (t : VirtualLocalTime) (s ns : ℕ) (d : Domain) →
-    Grows kept (setCallOf d kept asked t s ns).kept
-set-kept kept asked t s ns d =
-    by-admission (λ (a : Admission). Grows kept (setCallAs a d kept t s ns).kept)
+    Grows kept (set_call_of d kept asked t s ns).kept
+set_kept kept asked t s ns d =
+    by_admission (λ (a : Admission). Grows kept (set_call_as a d kept t s ns).kept)
     kept t d.number d.settings.role asked master
     (λ tested.
-    either (λ (x : SetStep). Grows kept (setStepped x kept t).kept) (leb ns 999999999)
-    (tested.not-before, λ h. tested.in-range) (kept-stays kept))
-    (kept-stays kept) (kept-stays kept)
+    either (λ (x : SetStep). Grows kept (set_stepped x kept t).kept) (leb ns 999999999)
+    (tested.not_before, λ h. tested.in_range) (kept_stays kept))
+    (kept_stays kept) (kept_stays kept)
 
 -- ---- what was sent last, and the counter that is next: a confirmation and a turn touch nothing else
 
-abbrev sending-as : Domain → Sending → ℕ → Domain
-sending-as d s next =
+abbrev sending_as : Domain → Sending → ℕ → Domain
+sending_as d s next =
     record {
       settings = d.settings;
       base = d.base;
@@ -133,28 +133,28 @@ sending-as d s next =
       next_counter = next;
     }
 
-still-blank : (b : Held) (d : Domain) (s : Sending) (next : ℕ) → Blank b d → Blank b (sending-as d s next)
-still-blank Unset d s next h = h
-still-blank (Set b) d s next h = h
+still_blank : (b : Held) (d : Domain) (s : Sending) (next : ℕ) → Blank b d → Blank b (sending_as d s next)
+still_blank Unset d s next h = h
+still_blank (Set b) d s next h = h
 
 abbrev ConfirmGood : ℕ → ConfirmCall → Type 0
 ConfirmGood i r = RecordGood i r.kept r.domain
 
 module _ (i : ℕ) (t : VirtualLocalTime) (d : Domain) (e : d.settings.role ≡ Master) (g : RecordGood i t d) where
-  sending-good : (s : Sending) (next : ℕ) → SentWithin t d.base next s → RecordGood i t (sending-as d s next)
-  sending-good s next h =
+  sending_good : (s : Sending) (next : ℕ) → SentWithin t d.base next s → RecordGood i t (sending_as d s next)
+  sending_good s next h =
       record {
         number = g.number;
         settings = g.settings;
-        settings-held = g.settings-held;
+        settings_held = g.settings_held;
         ids = g.ids;
         updates = g.updates;
         role =
-            subst (λ (r : Role). RoleGood r t (sending-as d s next)) (sym e)
+            subst (λ (r : Role). RoleGood r t (sending_as d s next)) (sym e)
             (record {
               base = m.base;
               sent = h;
-              blank = still-blank d.base d s next m.blank;
+              blank = still_blank d.base d s next m.blank;
               waiting = m.waiting;
               unknown = m.unknown;
               stored = m.stored;
@@ -162,68 +162,68 @@ module _ (i : ℕ) (t : VirtualLocalTime) (d : Domain) (e : d.settings.role ≡ 
       }
     where
       m : MasterGood t d
-      m = as-master i t d e g
+      m = as_master_lem i t d e g
 
   -- ---- confirmation
 
   confirmed :
       (kept : VirtualLocalTime) (counter : ℕ) (room : Bool) → RecordGood i kept d →
-      ConfirmGood i (confirmStepped (confirmOf d t counter room) kept t)
+      ConfirmGood i (confirm_stepped (confirm_of d t counter room) kept t)
   confirmed kept counter room old =
-      by-follow (λ (f : Follow). ConfirmGood i (confirmStepped (confirmAs f d counter) kept t))
+      by_follow (λ (f : Follow). ConfirmGood i (confirm_stepped (confirm_as f d counter) kept t))
       d.settings.confirmation_time d.sending t counter room old old
       (λ from at told has_room.
-      let h = subst (SentWithin t d.base d.next_counter) told.held (as-master i t d e g).sent in
-      sending-good (Confirmed at) d.next_counter (h.0, omega arith, h.5))
+      let h = subst (SentWithin t d.base d.next_counter) told.held (as_master_lem i t d e g).sent in
+      sending_good (Confirmed at) d.next_counter (h.0, omega arith, h.5))
 
   -- ---- a turn
 
-  sent-good : (b : TimeBase) → d.base ≡ Set b → (timeAt b t).0 ≤ 4294967295 →
-      RecordGood i t (sentOf d (timeAt b t).0 (timeAt b t).1 t).domain
-  sent-good b is fits =
+  sent_good : (b : TimeBase) → d.base ≡ Set b → (time_at b t).0 ≤ 4294967295 →
+      RecordGood i t (sent_of d (time_at b t).0 (time_at b t).1 t).domain
+  sent_good b is fits =
       let counter = d.next_counter % counters in
-      sending-good (Open counter (timeAt b t).0 (timeAt b t).1 t) ((counter + 1) % counters) (
+      sending_good (Open counter (time_at b t).0 (time_at b t).1 t) ((counter + 1) % counters) (
         subst BaseSet (sym is) tt,
         omega arith,
         refl,
         omega arith,
-        advance-good b.time (span_of b.at t),
+        advance_good b.time (span_of b.at t),
         omega arith,
       )
 
-pub confirm-good :
+pub confirm_good :
     (i : ℕ) (kept : VirtualLocalTime) (asked : ℕ) (t : VirtualLocalTime) (counter length : ℕ) (d : Domain) →
     RecordGood i kept d →
-    RecordGood i (confirmCallOf d kept asked t counter length).kept
-    (confirmCallOf d kept asked t counter length).domain
-confirm-good i kept asked t counter length d g =
-    by-admission (λ (a : Admission). ConfirmGood i (confirmCallAs a d kept t counter length)) kept t d.number
+    RecordGood i (confirm_call_of d kept asked t counter length).kept
+    (confirm_call_of d kept asked t counter length).domain
+confirm_good i kept asked t counter length d g =
+    by_admission (λ (a : Admission). ConfirmGood i (confirm_call_as a d kept t counter length)) kept t d.number
     d.settings.role asked master
     (λ tested.
-    confirmed i t d (master-admitted d.settings.role tested.in-role) (later i kept t d tested.not-before g)
+    confirmed i t d (master_admitted d.settings.role tested.in_role) (later i kept t d tested.not_before g)
     kept counter (leb 8 length) g)
     g g
 
-pub confirm-kept :
+pub confirm_kept :
     (kept : VirtualLocalTime) (asked : ℕ) (t : VirtualLocalTime) (counter length : ℕ) (d : Domain) →
-    Grows kept (confirmCallOf d kept asked t counter length).kept
-confirm-kept kept asked t counter length d =
-    by-admission (λ (a : Admission). Grows kept (confirmCallAs a d kept t counter length).kept) kept t d.number
+    Grows kept (confirm_call_of d kept asked t counter length).kept
+confirm_kept kept asked t counter length d =
+    by_admission (λ (a : Admission). Grows kept (confirm_call_as a d kept t counter length).kept) kept t d.number
     d.settings.role asked master
     (λ tested.
-    either (Grows kept) (eqb (confirmNumber (confirmOf d t counter (leb 8 length)).answer) 0)
-    (tested.not-before, λ h. tested.in-range) (kept-stays kept))
-    (kept-stays kept) (kept-stays kept)
+    either (Grows kept) (eqb (confirm_number (confirm_of d t counter (leb 8 length)).answer) 0)
+    (tested.not_before, λ h. tested.in_range) (kept_stays kept))
+    (kept_stays kept) (kept_stays kept)
 
 -- ---- the main cycle's part on one record
 
-pub send-good :
+pub send_good :
     (i : ℕ) (kept t : VirtualLocalTime) (d : Domain) → kept.0 ≤ t.0 → RecordGood i kept d →
-    RecordGood i t (sendOf d t).domain
-send-good i kept t d le g =
-    by-due (λ (due : Due). RecordGood i t (sendAs due d t).domain) d.settings.role d.settings.period d.base
+    RecordGood i t (send_of d t).domain
+send_good i kept t d le g =
+    by_due (λ (due : Due). RecordGood i t (send_as due d t).domain) d.settings.role d.settings.period d.base
     d.sending t still
-    (λ b told. sent-good i t d told.master still b told.held told.seconds)
+    (λ b told. sent_good i t d told.master still b told.held told.seconds)
   where
     still : RecordGood i t d
     still = later i kept t d le g

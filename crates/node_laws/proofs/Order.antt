@@ -17,7 +17,7 @@ use lib.ListN.{length, get_or}
 use Rattle.clock.specs.declared.reading.VirtualLocalTime.{VirtualLocalTime}
 use Rattle.clock.specs.declared.base.Held.{Held}
 use Rattle.clock.specs.declared.base.Held.TheVariants.{Unset, Set}
-use Rattle.clock.specs.Time.{isNanoseconds}
+use Rattle.clock.specs.Time.{is_nanoseconds}
 use Rattle.frame.specs.declared.types.FrameType.{FrameType}
 use Rattle.frame.specs.declared.types.FrameType.TheVariants.{PlainSync, SecuredSync, PlainFup, SecuredFup, Unknown}
 use Rattle.frame.specs.declared.values.Protection.TheVariants.{Plain, Secured}
@@ -26,57 +26,57 @@ use Rattle.frame.specs.declared.values.Fup.{Fup}
 use Rattle.frame.specs.declared.values.Frame.{Frame}
 use Rattle.frame.specs.declared.values.Frame.TheVariants.{Sync as sync, Fup as fup}
 use Rattle.frame.specs.Types.{type_of}
-use Rattle.frame.specs.Values.{domainIn}
+use Rattle.frame.specs.Values.{domain_in}
 use Rattle.frame_read.specs.declared.Read.{Read}
 use Rattle.frame_read.specs.declared.Read.TheVariants.{Values}
-use Rattle.frame_read.specs.Read.{namedDomain, syncIn, fupIn, values_of}
+use Rattle.frame_read.specs.Read.{named_domain, sync_in, fup_in, values_of}
 use Rattle.frame_check.specs.Check.{is_taken}
 use Rattle.settings.specs.declared.node_settings.NodeSettings.{NodeSettings}
 use Rattle.settings.specs.Ranges.{within}
-use Rattle.settings.specs.Node.{places, allGood, verdictNumber}
+use Rattle.settings.specs.Node.{places, all_good, verdict_number}
 use Rattle.admission.specs.declared.Needed.TheVariants.{Slave, Master, Either}
 use Rattle.admission.specs.declared.frames.FrameAdmission.{FrameAdmission}
-use Rattle.admission.specs.Reading.{isGoodReading}
-use Rattle.admission.specs.Admission.{isFor}
-use Rattle.admission.specs.FrameAdmission.{readFor}
+use Rattle.admission.specs.Reading.{is_good_reading}
+use Rattle.admission.specs.Admission.{is_for}
+use Rattle.admission.specs.FrameAdmission.{read_for}
 use Rattle.domain.specs.declared.Domain.{Domain}
 use Rattle.domain.specs.declared.Pair.{Pair}
 use Rattle.domain.specs.declared.Pairing.{Pairing}
 use Rattle.domain.specs.declared.Pairing.TheVariants.{Waiting, Open as open-pair}
 use Rattle.domain.specs.declared.Sending.{Sending}
 use Rattle.domain.specs.declared.Sending.TheVariants.{Never, Open, Confirmed}
-use Rattle.domain.specs.Records.{recordAt}
+use Rattle.domain.specs.Records.{record_at}
 use Rattle.slave_answer.specs.declared.FrameStep.{FrameStep}
-use Rattle.slave_answer.specs.Answer.{frameNumber}
+use Rattle.slave_answer.specs.Answer.{frame_number}
 use Rattle.slave_counter.specs.declared.CounterVerdict.{CounterVerdict}
 use Rattle.slave_counter.specs.declared.CounterVerdict.TheVariants.{Free, Good, NotGood}
-use Rattle.slave_counter.specs.Row.{row_of, checkedOf}
-use Rattle.slave_pair.specs.Join.{isOld, isOther, isAbove}
-use Rattle.slave_sync.specs.Sync.{verdictFor, syncAs}
-use Rattle.slave_update.specs.Update.{newBase}
-use Rattle.slave_fup.specs.Fup.{updateIn, takenBy}
+use Rattle.slave_counter.specs.Row.{row_of, checked_of}
+use Rattle.slave_pair.specs.Join.{is_old, is_other, is_above}
+use Rattle.slave_sync.specs.Sync.{verdict_for, sync_as}
+use Rattle.slave_update.specs.Update.{new_base}
+use Rattle.slave_fup.specs.Fup.{update_in, taken_by}
 use Rattle.slave_frame.specs.Step.{kind_of}
-use Rattle.master_follow.specs.Follow.{isOpenFor}
-use Rattle.call_frame.specs.FrameCall.{frameCallAs}
+use Rattle.master_follow.specs.Follow.{is_open_for}
+use Rattle.call_frame.specs.FrameCall.{frame_call_as}
 use Rattle.node.specs.declared.Node.{Node}
-use Rattle.node.specs.New.{newOf}
-use Rattle.node.specs.Frame.{addressedBy}
-use Rattle.node.specs.Cycle.{isRoomFor}
-use Rattle.node_call.specs.Calls.{Call, frame, read, set, cycle, confirm, answerTo, number_in}
+use Rattle.node.specs.New.{new_of}
+use Rattle.node.specs.Frame.{addressed_by}
+use Rattle.node.specs.Cycle.{is_room_for}
+use Rattle.node_call.specs.Calls.{Call, frame, read, set, cycle, confirm, answer_to, number_in}
 use Rattle.node_laws.specs.Tests.{
   first_of,
-  noType,
-  notFor,
-  notGood,
-  notComplete,
-  kindTests,
-  frameTests,
-  readTests,
-  setTests,
-  cycleTests,
-  confirmTests,
-  newTests,
-  testsOf,
+  no_type,
+  not_for,
+  not_good,
+  not_complete,
+  kind_tests,
+  frame_tests,
+  read_tests,
+  set_tests,
+  cycle_tests,
+  confirm_tests,
+  new_tests,
+  tests_of,
 }
 
 -- ---- one test: where it is met the later ones are asked, else its number is given
@@ -97,141 +97,141 @@ told false p q = q refl
 -- ---- a frame
 
 module _ (d : Domain) (kept t : VirtualLocalTime) (bytes : List ℕ) where
-  taken-zero :
+  taken_zero :
       (base : Held) (p : Pair) (f : Fup) →
-      frameNumber (takenBy (updateIn d base (newBase p f)) d p f).answer ≡ 0
-  taken-zero Unset p f = refl
-  taken-zero (Set b) p f = refl
+      frame_number (taken_by (update_in d base (new_base p f)) d p f).answer ≡ 0
+  taken_zero Unset p f = refl
+  taken_zero (Set b) p f = refl
 
-  abbrev stepNumber : FrameStep → ℕ
-  stepNumber s = frameNumber s.answer
+  abbrev step_number : FrameStep → ℕ
+  step_number s = frame_number s.answer
 
-  fup-order :
+  fup_order :
       (f : Fup) (pairing : Pairing) → d.pairing ≡ pairing →
-      stepNumber (kind_of d t (fup f)) ≡ first_of (kindTests (Values (fup f)) d t)
-  fup-order f Waiting e = simp e
-  fup-order f (open-pair p) e =
-      told (isOld d.settings.follow_up_time p t) (λ old. simp (e, old))
-      (λ young. told (isOther p f) (λ other. simp (e, young, other))
-      (λ same. told (isAbove f) (λ above. simp (e, young, same, above))
-      (λ below. simp (e, young, same, below) (taken-zero d.base p f))))
+      step_number (kind_of d t (fup f)) ≡ first_of (kind_tests (Values (fup f)) d t)
+  fup_order f Waiting e = simp e
+  fup_order f (open-pair p) e =
+      told (is_old d.settings.follow_up_time p t) (λ old. simp (e, old))
+      (λ young. told (is_other p f) (λ other. simp (e, young, other))
+      (λ same. told (is_above f) (λ above. simp (e, young, same, above))
+      (λ below. simp (e, young, same, below) (taken_zero d.base p f))))
 
-  check-order :
+  check_order :
       (s : Sync) (v : CounterVerdict) →
       let h = d.settings.hysteresis in
       let row = row_of d.last in
-      stepNumber (syncAs (checkedOf h row v) d t s) ≡ cond (notGood v) 6 (cond (notComplete h row v) 15 0)
-  check-order s Free = told (ltb 0 d.settings.hysteresis) (λ more. simp more) (λ none. simp none)
-  check-order s Good =
+      step_number (sync_as (checked_of h row v) d t s) ≡ cond (not_good v) 6 (cond (not_complete h row v) 15 0)
+  check_order s Free = told (ltb 0 d.settings.hysteresis) (λ more. simp more) (λ none. simp none)
+  check_order s Good =
       told (ltb (row_of d.last + 1) d.settings.hysteresis) (λ more. simp more) (λ none. simp none)
-  check-order s NotGood = refl
+  check_order s NotGood = refl
 
-  pub kind-order : (values : Frame) → stepNumber (kind_of d t values) ≡ first_of (kindTests (Values values) d t)
-  kind-order (sync s) = check-order s (verdictFor d t s)
-  kind-order (fup f) = fup-order f d.pairing refl
+  pub kind_order : (values : Frame) → step_number (kind_of d t values) ≡ first_of (kind_tests (Values values) d t)
+  kind_order (sync s) = check_order s (verdict_for d t s)
+  kind_order (fup f) = fup_order f d.pairing refl
 
-  abbrev admissionNumber : FrameAdmission → ℕ
-  admissionNumber a = frameNumber (frameCallAs a d kept t bytes).answer
+  abbrev admission_number : FrameAdmission → ℕ
+  admission_number a = frame_number (frame_call_as a d kept t bytes).answer
 
-  abbrev readNumberOf : Read → ℕ
-  readNumberOf r = admissionNumber (readFor r d.number d.settings.role)
+  abbrev read_number_of : Read → ℕ
+  read_number_of r = admission_number (read_for r d.number d.settings.role)
 
-  values-order :
+  values_order :
       (values : Frame) →
-      readNumberOf (Values values)
-      ≡ cond (notFor d (domainIn values) Slave) 4
-      (cond (not (is_taken d.settings.mode d.settings.ids bytes)) 5 (first_of (kindTests (Values values) d t)))
-  values-order values =
-      met admissionNumber (isFor d.number d.settings.role (domainIn values) Slave)
-      (met stepNumber (is_taken d.settings.mode d.settings.ids bytes) (kind-order values) refl) refl
+      read_number_of (Values values)
+      ≡ cond (not_for d (domain_in values) Slave) 4
+      (cond (not (is_taken d.settings.mode d.settings.ids bytes)) 5 (first_of (kind_tests (Values values) d t)))
+  values_order values =
+      met admission_number (is_for d.number d.settings.role (domain_in values) Slave)
+      (met step_number (is_taken d.settings.mode d.settings.ids bytes) (kind_order values) refl) refl
 
-  type-order :
+  type_order :
       (type : FrameType) →
-      readNumberOf (values_of type bytes)
-      ≡ cond (noType type) 3
-      (cond (notFor d (namedDomain bytes) Slave) 4
+      read_number_of (values_of type bytes)
+      ≡ cond (no_type type) 3
+      (cond (not_for d (named_domain bytes) Slave) 4
       (cond (not (is_taken d.settings.mode d.settings.ids bytes)) 5
-      (first_of (kindTests (values_of type bytes) d t))))
-  type-order PlainSync = values-order (sync (syncIn bytes (Plain (get_or bytes 1 0))))
-  type-order SecuredSync = values-order (sync (syncIn bytes Secured))
-  type-order PlainFup = values-order (fup (fupIn bytes (Plain (get_or bytes 1 0))))
-  type-order SecuredFup = values-order (fup (fupIn bytes Secured))
-  type-order Unknown = refl
+      (first_of (kind_tests (values_of type bytes) d t))))
+  type_order PlainSync = values_order (sync (sync_in bytes (Plain (get_or bytes 1 0))))
+  type_order SecuredSync = values_order (sync (sync_in bytes Secured))
+  type_order PlainFup = values_order (fup (fup_in bytes (Plain (get_or bytes 1 0))))
+  type_order SecuredFup = values_order (fup (fup_in bytes Secured))
+  type_order Unknown = refl
 
-pub frame-order :
+pub frame_order :
     (n : Node) (t : VirtualLocalTime) (bytes : List ℕ) →
-    number_in (answerTo n (frame t bytes)) ≡ first_of (frameTests n t bytes)
-frame-order n t bytes =
-    let d = recordAt n.domains (addressedBy bytes) in
-    met (admissionNumber d n.kept t bytes) (isGoodReading n.kept t)
-    (met (readNumberOf d n.kept t bytes) (eqb (length bytes) 8)
-    (type-order d n.kept t bytes (type_of (get_or bytes 0 0))) refl)
+    number_in (answer_to n (frame t bytes)) ≡ first_of (frame_tests n t bytes)
+frame_order n t bytes =
+    let d = record_at n.domains (addressed_by bytes) in
+    met (admission_number d n.kept t bytes) (is_good_reading n.kept t)
+    (met (read_number_of d n.kept t bytes) (eqb (length bytes) 8)
+    (type_order d n.kept t bytes (type_of (get_or bytes 0 0))) refl)
     refl
 
 -- ---- a read
 
-pub read-order :
+pub read_order :
     (n : Node) (domain : ℕ) (t : VirtualLocalTime) →
-    number_in (answerTo n (read domain t)) ≡ first_of (readTests n domain t)
-read-order n domain t =
-    told (isGoodReading n.kept t)
-    (λ good. told (isFor d.number d.settings.role domain Either) (λ for. held good for d.base refl)
+    number_in (answer_to n (read domain t)) ≡ first_of (read_tests n domain t)
+read_order n domain t =
+    told (is_good_reading n.kept t)
+    (λ good. told (is_for d.number d.settings.role domain Either) (λ for. held good for d.base refl)
     (λ other. simp (good, other)))
     (λ bad. simp bad)
   where
     d : Domain
-    d = recordAt n.domains (domain % places)
+    d = record_at n.domains (domain % places)
 
     held :
-        isGoodReading n.kept t ≡ true → isFor d.number d.settings.role domain Either ≡ true →
-        (base : Held) → d.base ≡ base → number_in (answerTo n (read domain t)) ≡ first_of (readTests n domain t)
+        is_good_reading n.kept t ≡ true → is_for d.number d.settings.role domain Either ≡ true →
+        (base : Held) → d.base ≡ base → number_in (answer_to n (read domain t)) ≡ first_of (read_tests n domain t)
     held good for Unset e = simp (good, for, e)
     held good for (Set b) e = simp (good, for, e)
 
 -- ---- a set
 
-pub set-order :
+pub set_order :
     (n : Node) (domain : ℕ) (t : VirtualLocalTime) (seconds nanoseconds : ℕ) →
-    number_in (answerTo n (set domain t seconds nanoseconds)) ≡ first_of (setTests n domain t nanoseconds)
-set-order n domain t seconds nanoseconds =
-    let d = recordAt n.domains (domain % places) in
-    told (isGoodReading n.kept t)
-    (λ good. told (isFor d.number d.settings.role domain Master)
-    (λ for. told (isNanoseconds nanoseconds) (λ few. simp (good, for, few)) (λ many. simp (good, for, many)))
+    number_in (answer_to n (set domain t seconds nanoseconds)) ≡ first_of (set_tests n domain t nanoseconds)
+set_order n domain t seconds nanoseconds =
+    let d = record_at n.domains (domain % places) in
+    told (is_good_reading n.kept t)
+    (λ good. told (is_for d.number d.settings.role domain Master)
+    (λ for. told (is_nanoseconds nanoseconds) (λ few. simp (good, for, few)) (λ many. simp (good, for, many)))
     (λ other. simp (good, other)))
     (λ bad. simp bad)
 
 -- ---- a main cycle
 
-pub cycle-order :
+pub cycle_order :
     (n : Node) (t : VirtualLocalTime) (out : List ℕ) →
-    number_in (answerTo n (cycle t out)) ≡ first_of (cycleTests n t out)
-cycle-order n t out =
-    told (isGoodReading n.kept t)
-    (λ good. told (isRoomFor n (length out)) (λ room. simp (good, room)) (λ short. simp (good, short)))
+    number_in (answer_to n (cycle t out)) ≡ first_of (cycle_tests n t out)
+cycle_order n t out =
+    told (is_good_reading n.kept t)
+    (λ good. told (is_room_for n (length out)) (λ room. simp (good, room)) (λ short. simp (good, short)))
     (λ bad. simp bad)
 
 -- ---- a confirmation
 
-pub confirm-order :
+pub confirm_order :
     (n : Node) (domain : ℕ) (t : VirtualLocalTime) (counter : ℕ) (out : List ℕ) →
-    number_in (answerTo n (confirm domain t counter out)) ≡ first_of (confirmTests n domain t counter out)
-confirm-order n domain t counter out =
-    told (isGoodReading n.kept t)
-    (λ good. told (isFor d.number d.settings.role domain Master) (λ for. sent good for d.sending refl)
+    number_in (answer_to n (confirm domain t counter out)) ≡ first_of (confirm_tests n domain t counter out)
+confirm_order n domain t counter out =
+    told (is_good_reading n.kept t)
+    (λ good. told (is_for d.number d.settings.role domain Master) (λ for. sent good for d.sending refl)
     (λ other. simp (good, other)))
     (λ bad. simp bad)
   where
     d : Domain
-    d = recordAt n.domains (domain % places)
+    d = record_at n.domains (domain % places)
 
     sent :
-        isGoodReading n.kept t ≡ true → isFor d.number d.settings.role domain Master ≡ true →
+        is_good_reading n.kept t ≡ true → is_for d.number d.settings.role domain Master ≡ true →
         (sending : Sending) → d.sending ≡ sending →
-        number_in (answerTo n (confirm domain t counter out)) ≡ first_of (confirmTests n domain t counter out)
+        number_in (answer_to n (confirm domain t counter out)) ≡ first_of (confirm_tests n domain t counter out)
     sent good for Never e = simp (good, for, e)
     sent good for (Open was seconds nanoseconds at) e =
-        told (isOpenFor d.settings.confirmation_time was at t counter)
+        told (is_open_for d.settings.confirmation_time was at t counter)
         (λ its. told (leb 8 (length out))
         (λ room. simp (good, for, e, its, room)) (λ short. simp (good, for, e, its, short)))
         (λ none. simp (good, for, e, none))
@@ -239,17 +239,17 @@ confirm-order n domain t counter out =
 
 -- ---- `new`
 
-pub new-order : (s : NodeSettings) → verdictNumber (newOf s).verdict ≡ first_of (newTests s)
-new-order s =
+pub new_order : (s : NodeSettings) → verdict_number (new_of s).verdict ≡ first_of (new_tests s)
+new_order s =
     told (within 1 16 s.syncs_per_cycle)
-    (λ one. told (allGood s.domains) (λ all. simp (one, all)) (λ some. simp (one, some)))
+    (λ one. told (all_good s.domains) (λ all. simp (one, all)) (λ some. simp (one, some)))
     (λ none. simp none)
 
 -- ---- any call
 
-pub order : (n : Node) (c : Call) → number_in (answerTo n c) ≡ first_of (testsOf n c)
-order n (frame t bytes) = frame-order n t bytes
-order n (read domain t) = read-order n domain t
-order n (set domain t seconds nanoseconds) = set-order n domain t seconds nanoseconds
-order n (cycle t out) = cycle-order n t out
-order n (confirm domain t counter out) = confirm-order n domain t counter out
+pub order : (n : Node) (c : Call) → number_in (answer_to n c) ≡ first_of (tests_of n c)
+order n (frame t bytes) = frame_order n t bytes
+order n (read domain t) = read_order n domain t
+order n (set domain t seconds nanoseconds) = set_order n domain t seconds nanoseconds
+order n (cycle t out) = cycle_order n t out
+order n (confirm domain t counter out) = confirm_order n domain t counter out

@@ -14,28 +14,28 @@ use lib.ListN.{length, take, drop, replicate}
 use Rattle.clock.specs.declared.base.Held.TheVariants.{Set}
 use Rattle.refusal.specs.declared.Refusal.TheVariants.{Length, NoRoom}
 use Rattle.frame_laws.specs.RoundTrip.{AreBytes}
-use Rattle.domain.specs.Records.{recordAt}
+use Rattle.domain.specs.Records.{record_at}
 use Rattle.node.specs.declared.Node.{Node}
-use Rattle.node.specs.New.{newOf}
+use Rattle.node.specs.New.{new_of}
 use Rattle.node_queue.specs.declared.QueueAnswer.{QueueAnswer}
 use Rattle.node_queue.specs.declared.QueueAnswer.TheVariants.{Taken, Refused}
 use Rattle.node_queue.specs.declared.NodeQueue.{NodeQueue}
-use Rattle.node_queue.specs.Queue.{queueCalls, queueNumber, queueNode, queueBytes, QueuedIn}
-use Rattle.bench_settings.specs.Bench.{benchWith}
+use Rattle.node_queue.specs.Queue.{queue_calls, queue_number, queue_node, queue_bytes, QueuedIn}
+use Rattle.bench_settings.specs.Bench.{bench_with}
 use Rattle.node_laws.specs.Reachable.{AreCalls, Reachable}
-use Rattle.node_laws.specs.Tests.{first_of, queueTests}
+use Rattle.node_laws.specs.Tests.{first_of, queue_tests}
 use Rattle.node_laws.proofs.Witness.{reaches}
 
-pub queue-order :
+pub queue_order :
     (n : Node) (ts fs before : List ℕ) (r : NodeQueue) (after : List ℕ) → QueuedIn n ts fs before r after →
-    queueNumber r.answer ≡ first_of (queueTests ts fs before)
-queue-order n ts fs before r after q =
-    ap queueNumber q.answer
+    queue_number r.answer ≡ first_of (queue_tests ts fs before)
+queue_order n ts fs before r after q =
+    ap queue_number q.answer
     ∙ by (leb (length ts) (length before)) (leb (length ts) 32) (eqb (length fs) (8 * length ts))
   where
     by :
         (room most eight : Bool) →
-        queueNumber (cond room (cond (most && eight) Taken (Refused Length)) (Refused NoRoom))
+        queue_number (cond room (cond (most && eight) Taken (Refused Length)) (Refused NoRoom))
         ≡ first_of ((12, not room) ∷ (2, not most) ∷ (2, not eight) ∷ [])
     by true true true = refl
     by true true false = refl
@@ -52,23 +52,23 @@ bytes_drop zero l are = are
 bytes_drop (suc k) [] are = tt
 bytes_drop (suc k) (byte ∷ rest) are = bytes_drop k rest are.1
 
-pub queue-calls : (ts fs : List ℕ) → AreBytes fs → AreCalls (queueCalls ts fs)
-queue-calls [] fs are = tt
-queue-calls (t ∷ ts) fs are = (bytes_take 8 fs are, queue-calls ts (drop 8 fs) (bytes_drop 8 fs are))
+pub queue_calls_lem : (ts fs : List ℕ) → AreBytes fs → AreCalls (queue_calls ts fs)
+queue_calls_lem [] fs are = tt
+queue_calls_lem (t ∷ ts) fs are = (bytes_take 8 fs are, queue_calls_lem ts (drop 8 fs) (bytes_drop 8 fs are))
 
-pub queue-reached :
+pub queue_reached :
     (n : Node) → Reachable n → (ts fs before : List ℕ) → AreBytes fs → (r : NodeQueue) (after : List ℕ) →
     QueuedIn n ts fs before r after → Reachable r.node
-queue-reached n reached ts fs before are r after q = subst Reachable (sym q.node) (by r.answer)
+queue_reached n reached ts fs before are r after q = subst Reachable (sym q.node) (by r.answer)
   where
-    by : (a : QueueAnswer) → Reachable (queueNode a n ts fs)
-    by Taken = reaches n reached (queueCalls ts fs) (queue-calls ts fs are)
+    by : (a : QueueAnswer) → Reachable (queue_node a n ts fs)
+    by Taken = reaches n reached (queue_calls ts fs) (queue_calls_lem ts fs are)
     by (Refused refusal) = reached
 
 -- ---- P1 and P2 in one
 
 abbrev bench : Node
-bench = (newOf (benchWith 2)).node
+bench = (new_of (bench_with 2)).node
 
 abbrev readings : List ℕ
 readings = 5000000000 ∷ 5010000000 ∷ []
@@ -78,16 +78,16 @@ frames =
     (0x10 ∷ 0xBB ∷ 0x11 ∷ 0xAA ∷ 0x00 ∷ 0x00 ∷ 0x0E ∷ 0x10 ∷ [])
     ++ (0x18 ∷ 0x00 ∷ 0x11 ∷ 0x00 ∷ 0x00 ∷ 0x00 ∷ 0x00 ∷ 0x64 ∷ [])
 
-pub pair-taken :
+pub pair_taken :
     (r : NodeQueue) (after : List ℕ) → QueuedIn bench readings frames (replicate 3 0xA5) r after →
     (r.answer ≡ Taken) × (after ≡ 0 ∷ 0 ∷ 0xA5 ∷ [])
-pair-taken r after q =
-    (q.answer, q.bytes ∙ ap (λ (a : QueueAnswer). queueBytes a bench readings frames (replicate 3 0xA5)) q.answer)
+pair_taken r after q =
+    (q.answer, q.bytes ∙ ap (λ (a : QueueAnswer). queue_bytes a bench readings frames (replicate 3 0xA5)) q.answer)
 
 pub pair_held :
     (r : NodeQueue) (after : List ℕ) → QueuedIn bench readings frames (replicate 3 0xA5) r after →
-    (recordAt r.node.domains 1).base
+    (record_at r.node.domains 1).base
     ≡ Set (record { time = record { 0 = 3600; 1 = 100 }; at = record { 0 = 5000000000 } })
 pair_held r after q =
-    ap (λ (n : Node). (recordAt n.domains 1).base)
-    (q.node ∙ ap (λ (a : QueueAnswer). queueNode a bench readings frames) q.answer)
+    ap (λ (n : Node). (record_at n.domains 1).base)
+    (q.node ∙ ap (λ (a : QueueAnswer). queue_node a bench readings frames) q.answer)

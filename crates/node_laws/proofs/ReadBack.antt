@@ -12,68 +12,68 @@ use lib.Seq.{take_at}
 use Rattle.settings.specs.Node.{places}
 use Rattle.frame.specs.ByteTwo.{counters}
 use Rattle.clock.specs.declared.reading.VirtualLocalTime.{VirtualLocalTime}
-use Rattle.clock.specs.Base.{timeAt}
+use Rattle.clock.specs.Base.{time_at}
 use Rattle.frame.specs.declared.values.Sync.{Sync}
 use Rattle.frame.specs.declared.values.Fup.{Fup}
 use Rattle.frame.specs.declared.values.Frame.TheVariants.{Sync as sync, Fup as fup}
 use Rattle.frame_read.specs.Read.{read_of}
 use Rattle.frame_write.specs.Write.{bytes_of}
 use Rattle.frame_laws.specs.RoundTrip.{SyncFits, FupFits}
-use Rattle.frame_write.proofs.Laws.{bytes-length}
+use Rattle.frame_write.proofs.Laws.{bytes_length}
 use Rattle.frame_laws.proofs.Laws.{read_back}
 use Rattle.domain.specs.declared.Domain.{Domain}
 use Rattle.master_rules.specs.declared.due.Due.{Due}
-use Rattle.master_rules.proofs.Laws.{by-due}
-use Rattle.master_rules.specs.Sent.{protectionOf}
+use Rattle.master_rules.proofs.Laws.{by_due}
+use Rattle.master_rules.specs.Sent.{protection_of}
 use Rattle.master_send.specs.declared.SendAnswer.TheVariants.{Sent}
-use Rattle.master_send.specs.Send.{sendAs, sendOf}
+use Rattle.master_send.specs.Send.{send_as, send_of}
 use Rattle.master_confirm.specs.declared.ConfirmAnswer.{ConfirmAnswer}
 use Rattle.master_confirm.specs.declared.ConfirmAnswer.TheVariants.{Followed}
-use Rattle.call_confirm.specs.ConfirmCall.{confirmCallOf}
-use Rattle.domain.specs.Records.{recordAt}
-use Rattle.round.specs.Round.{roundOf}
+use Rattle.call_confirm.specs.ConfirmCall.{confirm_call_of}
+use Rattle.domain.specs.Records.{record_at}
+use Rattle.round.specs.Round.{round_of}
 use Rattle.node.specs.declared.Node.{Node}
-use Rattle.node.specs.Cycle.{goneFrom}
-use Rattle.node.specs.Confirm.{confirmedBytes}
+use Rattle.node.specs.Cycle.{gone_from}
+use Rattle.node.specs.Confirm.{confirmed_bytes}
 use Rattle.node_laws.specs.Good.{RecordGood, Good}
 use Rattle.round.specs.FirstDue.{Each}
 use Rattle.node_laws.specs.Back.{SyncBack}
 use Rattle.node_laws.specs.Demands.{FupBack}
-use Rattle.node_laws.proofs.Cycles.{round-each}
-use Rattle.node_laws.proofs.Bounds.{by-followed, sent-within, ovs-here}
+use Rattle.node_laws.proofs.Cycles.{round_each}
+use Rattle.node_laws.proofs.Bounds.{by_followed, sent_within_lem, ovs-here}
 
 -- ---- a SYNC
 
-abbrev sentBy : Domain → (seconds : ℕ) → Sync
-sentBy d seconds =
+abbrev sent_by : Domain → (seconds : ℕ) → Sync
+sent_by d seconds =
     record {
       domain = d.number;
       counter = d.next_counter % counters;
       user0 = d.settings.user.0;
       seconds = seconds;
-      protection = protectionOf d.settings.security d.settings.user.1;
+      protection = protection_of d.settings.security d.settings.user.1;
     }
 
-sent-fits :
-    (d : Domain) (t : VirtualLocalTime) → d.number < places → (s : Sync) → (sendOf d t).answer ≡ Sent s → SyncFits s
-sent-fits d t h s =
-    by-due (λ (due : Due). (sendAs due d t).answer ≡ Sent s → SyncFits s) d.settings.role d.settings.period
+sent_fits :
+    (d : Domain) (t : VirtualLocalTime) → d.number < places → (s : Sync) → (send_of d t).answer ≡ Sent s → SyncFits s
+sent_fits d t h s =
+    by_due (λ (due : Due). (send_as due d t).answer ≡ Sent s → SyncFits s) d.settings.role d.settings.period
     d.base d.sending t (λ e. let no : ◌≡◌ {A = ℕ} 0 1 = cc in absurd (omega arith))
     (λ b told e.
-    let same : sentBy d (timeAt b t).0 ≡ s = cc in
+    let same : sent_by d (time_at b t).0 ≡ s = cc in
     subst SyncFits same (record { domain = h; counter = omega arith; seconds = omega (arith, told.seconds) }))
 
-pub sync-read-back :
+pub sync_read_back :
     (ds : List Domain) (first : ℕ) (t : VirtualLocalTime) (most : ℕ) →
-    ((i : ℕ) → i < places → (recordAt ds i).number < places) → Each (SyncBack ds t) (roundOf ds first t most).frames
-sync-read-back ds first t most numbers =
-    round-each (SyncBack ds t) most t ds
+    ((i : ℕ) → i < places → (record_at ds i).number < places) → Each (SyncBack ds t) (round_of ds first t most).frames
+sync_read_back ds first t most numbers =
+    round_each (SyncBack ds t) most t ds
     (λ i h s e. record {
       place = i;
       values = s;
       sent = e;
       bytes = refl;
-      back = read_back (recordAt ds i).settings.ids (sync s) (sent-fits (recordAt ds i) t (numbers i h) s e);
+      back = read_back (record_at ds i).settings.ids (sync s) (sent_fits (record_at ds i) t (numbers i h) s e);
     })
     first
 
@@ -82,36 +82,36 @@ sync-read-back ds first t most numbers =
 call_fits :
     (i : ℕ) (kept : VirtualLocalTime) (d : Domain) → RecordGood i kept d → i < places →
     (asked : ℕ) (t : VirtualLocalTime) (counter length : ℕ) (f : Fup) →
-    (confirmCallOf d kept asked t counter length).answer ≡ Followed f → FupFits f
+    (confirm_call_of d kept asked t counter length).answer ≡ Followed f → FupFits f
 call_fits i kept d g h asked t counter length =
-    by-followed FupFits d kept t counter asked length
+    by_followed FupFits d kept t counter asked length
     (λ is le from at told. record {
       domain = rw g.number h;
-      counter = (sent-within i kept d g _ told.held).1;
+      counter = (sent_within_lem i kept d g _ told.held).1;
       ovs = omega (arith, ovs-here i kept d g is t counter from at told);
       nanoseconds = omega arith;
     })
 
-pub fup-read-back :
+pub fup_read_back :
     (n : Node) (domain : ℕ) (t : VirtualLocalTime) (counter : ℕ) (out : List ℕ) →
-    RecordGood (domain % places) n.kept (recordAt n.domains (domain % places)) →
+    RecordGood (domain % places) n.kept (record_at n.domains (domain % places)) →
     FupBack n domain t counter out
-fup-read-back n domain t counter out g f e =
-    let d = recordAt n.domains (domain % places) in
+fup_read_back n domain t counter out g f e =
+    let d = record_at n.domains (domain % places) in
     let bytes = bytes_of d.settings.ids (fup f) in
-    ap (λ (a : ConfirmAnswer). read_of (take 8 (confirmedBytes a n domain out))) e
-    ∙ ap read_of (take_at bytes (drop 8 out) 8 (bytes-length d.settings.ids (fup f)))
+    ap (λ (a : ConfirmAnswer). read_of (take 8 (confirmed_bytes a n domain out))) e
+    ∙ ap read_of (take_at bytes (drop 8 out) 8 (bytes_length d.settings.ids (fup f)))
     ∙ read_back d.settings.ids (fup f)
     (call_fits (domain % places) n.kept d g (omega arith) domain t counter (length out) f e)
 
 -- ---- both for a good node
 
 module _ (n : Node) (good : Good n) where
-  pub good-sync-back : (t : VirtualLocalTime) → Each (SyncBack n.domains t) (goneFrom n t).frames
-  good-sync-back t =
-      sync-read-back n.domains n.round t n.syncs_per_cycle (λ i h. rw (good.records i h).number h)
+  pub good_sync_back : (t : VirtualLocalTime) → Each (SyncBack n.domains t) (gone_from n t).frames
+  good_sync_back t =
+      sync_read_back n.domains n.round t n.syncs_per_cycle (λ i h. rw (good.records i h).number h)
 
-  pub good-fup-back :
+  pub good_fup_back :
       (domain : ℕ) (t : VirtualLocalTime) (counter : ℕ) (out : List ℕ) → FupBack n domain t counter out
-  good-fup-back domain t counter out =
-      fup-read-back n domain t counter out (good.records (domain % places) (omega arith))
+  good_fup_back domain t counter out =
+      fup_read_back n domain t counter out (good.records (domain % places) (omega arith))

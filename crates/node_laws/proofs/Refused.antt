@@ -4,9 +4,9 @@
 use mathlib.Core.Path.{◌≡◌, refl, ap}
 use Rattle.call_read.specs.declared.ReadAnswer.{ReadAnswer}
 use Rattle.call_read.specs.declared.ReadAnswer.TheVariants.{Time, Refused}
-use Rattle.call_read.specs.Answer.{readNumber, readValues}
+use Rattle.call_read.specs.Answer.{read_number, read_values}
 use Rattle.node.specs.declared.Node.{Node}
-use Rattle.node.specs.Read.{nodeReadOf}
+use Rattle.node.specs.Read.{node_read_of}
 use Rattle.node_call.specs.Calls.{
   Call,
   frame,
@@ -17,25 +17,25 @@ use Rattle.node_call.specs.Calls.{
   shows,
   sends,
   follows,
-  answerTo,
+  answer_to,
   number_in,
 }
-use Rattle.node_laws.specs.Refused.{IsRefused, zeros, refusedBy}
-use Rattle.node_laws.proofs.Laws.{refusal-keeps-bytes}
+use Rattle.node_laws.specs.Refused.{IsRefused, zeros, refused_by}
+use Rattle.node_laws.proofs.Laws.{refusal_keeps_bytes}
 
-read-zeros : (a : ReadAnswer) → (readNumber a ≡ 0 → ⊥) → readValues a ≡ zeros
-read-zeros (Time shown) e = absurd (e refl)
-read-zeros (Refused refusal) e = refl
+read_zeros : (a : ReadAnswer) → (read_number a ≡ 0 → ⊥) → read_values a ≡ zeros
+read_zeros (Time shown) e = absurd (e refl)
+read_zeros (Refused refusal) e = refl
 
-pub refused-zeros :
-    (n : Node) (c : Call) → IsRefused n c → answerTo n c ≡ refusedBy (number_in (answerTo n c)) c
-refused-zeros n (frame t bytes) e = refl
-refused-zeros n (read domain t) e =
-    let answer = nodeReadOf n domain t in ap (shows (readNumber answer)) (read-zeros answer e)
-refused-zeros n (set domain t seconds nanoseconds) e = refl
-refused-zeros n (cycle t out) e =
-    let k = refusal-keeps-bytes n (cycle t out) e in
-    λ i. sends (number_in (answerTo n (cycle t out))) (k.1 i) (k.0 i)
-refused-zeros n (confirm domain t counter out) e =
-    let k = refusal-keeps-bytes n (confirm domain t counter out) e in
-    ap (follows (number_in (answerTo n (confirm domain t counter out)))) k.0
+pub refused_zeros :
+    (n : Node) (c : Call) → IsRefused n c → answer_to n c ≡ refused_by (number_in (answer_to n c)) c
+refused_zeros n (frame t bytes) e = refl
+refused_zeros n (read domain t) e =
+    let answer = node_read_of n domain t in ap (shows (read_number answer)) (read_zeros answer e)
+refused_zeros n (set domain t seconds nanoseconds) e = refl
+refused_zeros n (cycle t out) e =
+    let k = refusal_keeps_bytes n (cycle t out) e in
+    λ i. sends (number_in (answer_to n (cycle t out))) (k.1 i) (k.0 i)
+refused_zeros n (confirm domain t counter out) e =
+    let k = refusal_keeps_bytes n (confirm domain t counter out) e in
+    ap (follows (number_in (answer_to n (confirm domain t counter out)))) k.0

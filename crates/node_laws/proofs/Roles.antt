@@ -9,30 +9,30 @@ use mathlib.Core.List.{List, [], ◌∷◌}
 use borrow.Author.Tests.{eqb-false}
 use Rattle.settings.specs.declared.domain_settings.DomainSettings.{DomainSettings}
 use Rattle.settings.specs.Node.{places}
-use Rattle.master_rules.specs.Due.{isMaster}
+use Rattle.master_rules.specs.Due.{is_master}
 use Rattle.node.specs.declared.Node.{Node}
-use Rattle.node.specs.Frame.{addressedBy}
-use Rattle.node_call.specs.Calls.{Call, frame, read, set, cycle, confirm, nodeAfter}
+use Rattle.node.specs.Frame.{addressed_by}
+use Rattle.node_call.specs.Calls.{Call, frame, read, set, cycle, confirm, node_after}
 use Rattle.node_laws.specs.Reachable.{AreCalls, Reachable}
-use Rattle.node_laws.specs.Apart.{Elsewhere, isOwn, NoMaster, OthersElsewhere, Undisturbed}
+use Rattle.node_laws.specs.Apart.{Elsewhere, is_own, NoMaster, OthersElsewhere, Undisturbed}
 use Rattle.node_laws.proofs.Interleaved.{undisturbed}
-use Rattle.node_laws.proofs.Stays.{settings-stay}
+use Rattle.node_laws.proofs.Stays.{settings_stay}
 
-elsewhere : (n : Node) (c : Call) (i : ℕ) → NoMaster n i → isOwn c i ≡ false → Elsewhere n c i
-elsewhere n (frame t bytes) i m w = λ e. eqb-false (addressedBy bytes) i w (sym e)
+elsewhere : (n : Node) (c : Call) (i : ℕ) → NoMaster n i → is_own c i ≡ false → Elsewhere n c i
+elsewhere n (frame t bytes) i m w = λ e. eqb-false (addressed_by bytes) i w (sym e)
 elsewhere n (read domain t) i m w = tt
 elsewhere n (set domain t s ns) i m w = λ e. eqb-false (domain % places) i w (sym e)
 elsewhere n (cycle t out) i m w = m
 elsewhere n (confirm domain t counter out) i m w = λ e. eqb-false (domain % places) i w (sym e)
 
-pub others-elsewhere : (n : Node) (cs : List Call) (i : ℕ) → NoMaster n i → OthersElsewhere n cs i
-others-elsewhere n [] i m = tt
-others-elsewhere n (c ∷ rest) i m = (
+pub others_elsewhere : (n : Node) (cs : List Call) (i : ℕ) → NoMaster n i → OthersElsewhere n cs i
+others_elsewhere n [] i m = tt
+others_elsewhere n (c ∷ rest) i m = (
   elsewhere n c i m,
-  others-elsewhere (nodeAfter n c) rest i
-      (ap (λ (s : DomainSettings). isMaster s.role) (settings-stay n c i) ∙ m),
+  others_elsewhere (node_after n c) rest i
+      (ap (λ (s : DomainSettings). is_master s.role) (settings_stay n c i) ∙ m),
 )
 
-pub others-undisturbed :
+pub others_undisturbed :
     (n : Node) → Reachable n → (cs : List Call) (i : ℕ) → i < places → AreCalls cs → NoMaster n i → Undisturbed n cs i
-others-undisturbed n r cs i below are m = undisturbed n r cs i below are (others-elsewhere n cs i m)
+others_undisturbed n r cs i below are m = undisturbed n r cs i below are (others_elsewhere n cs i m)

@@ -13,7 +13,7 @@ use lib.Dec.{leb, eqb, ltb}
 use borrow.Author.Tests.{ltb-true}
 use lib.ListN.{length, get_or}
 use Rattle.frame.specs.ByteTwo.{counters}
-use Rattle.promise.proofs.Tests.{either, either-told, both}
+use Rattle.promise.proofs.Tests.{either, either_told, both}
 use Rattle.clock.specs.declared.reading.VirtualLocalTime.{VirtualLocalTime}
 use Rattle.clock.specs.Reading.{span_of}
 use Rattle.clock.specs.declared.base.TimeBase.{TimeBase}
@@ -38,19 +38,19 @@ use Rattle.frame_read.specs.Read.{word_of, values_of, read_of}
 use Rattle.frame_check.specs.Check.{is_taken}
 use Rattle.refusal.specs.Numbers.{number_of}
 use Rattle.frame_laws.specs.RoundTrip.{AreBytes}
-use Rattle.frame_laws.proofs.Laws.{byte-below}
+use Rattle.frame_laws.proofs.Laws.{byte_below}
 use Rattle.settings.specs.declared.domain_settings.Role.{Role}
 use Rattle.settings.specs.declared.domain_settings.Role.TheVariants.{Slave}
-use Rattle.settings.specs.Ranges.{isGoodAs}
-use Rattle.settings.proofs.ranges.Laws.{SlaveRange, slave-range}
+use Rattle.settings.specs.Ranges.{is_good_as}
+use Rattle.settings.proofs.ranges.Laws.{SlaveRange, slave_range}
 use Rattle.admission.specs.declared.Needed.TheVariants.{Slave as slave}
 use Rattle.admission.specs.declared.frames.FrameAdmission.{FrameAdmission}
 use Rattle.admission.specs.declared.frames.FrameAdmission.TheVariants.{Admitted, Refused}
-use Rattle.admission.specs.Reading.{isGoodReading}
-use Rattle.admission.specs.Admission.{isIn, isFor}
-use Rattle.admission.proofs.Laws.{good-reading, slave-admitted}
-use Rattle.frame.specs.Values.{domainIn}
-use Rattle.admission.specs.FrameAdmission.{readFor, frameAdmitted}
+use Rattle.admission.specs.Reading.{is_good_reading}
+use Rattle.admission.specs.Admission.{is_in, is_for}
+use Rattle.admission.proofs.Laws.{good_reading, slave_admitted}
+use Rattle.frame.specs.Values.{domain_in}
+use Rattle.admission.specs.FrameAdmission.{read_for, frame_admitted}
 use Rattle.domain.specs.declared.Domain.{Domain}
 use Rattle.domain.specs.declared.Pair.{Pair}
 use Rattle.domain.specs.declared.Pairing.{Pairing}
@@ -59,15 +59,15 @@ use Rattle.domain.specs.declared.LastSync.{LastSync}
 use Rattle.domain.specs.declared.LastSync.TheVariants.{Unknown, Seen}
 use Rattle.domain.specs.declared.Leap.{Leap}
 use Rattle.domain.specs.declared.Leap.TheVariants.{None, Future, Past}
-use Rattle.domain.specs.Fields.{withPairing, with_last}
+use Rattle.domain.specs.Fields.{with_pairing, with_last}
 use Rattle.slave_counter.specs.declared.CounterVerdict.{CounterVerdict}
 use Rattle.slave_counter.specs.declared.CounterVerdict.TheVariants.{Free}
 use Rattle.slave_counter.specs.declared.RowCheck.{RowCheck}
-use Rattle.slave_counter.specs.Counter.{jumpOf, verdictOf}
-use Rattle.slave_counter.specs.Row.{row_of, with_row, rowRefused}
+use Rattle.slave_counter.specs.Counter.{jump_of, verdict_of}
+use Rattle.slave_counter.specs.Row.{row_of, with_row, row_refused}
 use Rattle.slave_counter.proofs.Laws.{
   Checked,
-  not-joined as refuses,
+  not_joined as refuses,
   begins,
   alone,
   joins,
@@ -77,18 +77,18 @@ use Rattle.slave_counter.proofs.Laws.{
 }
 use Rattle.slave_pair.specs.Pair.{pair_of}
 use Rattle.slave_pair.specs.declared.joining.Joined.{Joined}
-use Rattle.slave_pair.specs.declared.joining.Joined.TheVariants.{With, Refused as not-joined}
-use Rattle.slave_answer.specs.Answer.{frameNumber}
-use Rattle.slave_pair.specs.Join.{joinedOf}
-use Rattle.slave_pair.proofs.Laws.{by-joined}
-use Rattle.slave_update.specs.Leap.{isFuture, isPast, calmer}
-use Rattle.slave_update.specs.Update.{newBase, movedBy, updateOf}
-use Rattle.slave_update.proofs.Laws.{update-taken}
+use Rattle.slave_pair.specs.declared.joining.Joined.TheVariants.{With, Refused as not_joined}
+use Rattle.slave_answer.specs.Answer.{frame_number}
+use Rattle.slave_pair.specs.Join.{joined_of}
+use Rattle.slave_pair.proofs.Laws.{by_joined}
+use Rattle.slave_update.specs.Leap.{is_future, is_past, calmer}
+use Rattle.slave_update.specs.Update.{new_base, moved_by, update_of}
+use Rattle.slave_update.proofs.Laws.{update_taken}
 use Rattle.slave_answer.specs.declared.FrameStep.{FrameStep}
-use Rattle.slave_sync.specs.Sync.{verdictFor, checkFor, withSync, withPair, syncAs, syncOf}
-use Rattle.slave_fup.specs.Fup.{updatedOf, updateIn, fupAs}
+use Rattle.slave_sync.specs.Sync.{verdict_for, check_for, with_sync, with_pair, sync_as, sync_of}
+use Rattle.slave_fup.specs.Fup.{updated_of, update_in, fup_as}
 use Rattle.slave_frame.specs.Step.{kind_of, frame_of}
-use Rattle.call_frame.specs.FrameCall.{frameKept, frameCallAs, frameCallOf}
+use Rattle.call_frame.specs.FrameCall.{frame_kept, frame_call_as, frame_call_of}
 use Rattle.node_laws.specs.Good.{
   HeldWithin,
   LastWithin,
@@ -102,13 +102,13 @@ use Rattle.node_laws.specs.Good.{
   RoleGood,
   RecordGood,
 }
-use Rattle.node_laws.proofs.Later.{later, Grows, kept-stays}
+use Rattle.node_laws.proofs.Later.{later, Grows, kept_stays}
 
 -- ---- what the bytes of a frame carry
 
 word_below : (bytes : List ℕ) → AreBytes bytes → word_of bytes < 4294967296
 word_below bytes h =
-    omega (arith, byte-below bytes 4 h, byte-below bytes 5 h, byte-below bytes 6 h, byte-below bytes 7 h)
+    omega (arith, byte_below bytes 4 h, byte_below bytes 5 h, byte_below bytes 6 h, byte_below bytes 7 h)
 
 abbrev Carried : Frame → Type 0
 Carried (sync s) = (s.counter < counters) × (s.seconds < 4294967296)
@@ -119,15 +119,15 @@ ReadCarried LengthNot8 = Unit {0}
 ReadCarried NoSuchType = Unit {0}
 ReadCarried (Values values) = Carried values
 
-values-carried : (type : FrameType) (bytes : List ℕ) → AreBytes bytes → ReadCarried (values_of type bytes)
-values-carried PlainSync bytes h = (omega arith, word_below bytes h)
-values-carried SecuredSync bytes h = (omega arith, word_below bytes h)
-values-carried PlainFup bytes h = omega arith
-values-carried SecuredFup bytes h = omega arith
-values-carried no-type bytes h = tt
+values_carried : (type : FrameType) (bytes : List ℕ) → AreBytes bytes → ReadCarried (values_of type bytes)
+values_carried PlainSync bytes h = (omega arith, word_below bytes h)
+values_carried SecuredSync bytes h = (omega arith, word_below bytes h)
+values_carried PlainFup bytes h = omega arith
+values_carried SecuredFup bytes h = omega arith
+values_carried no-type bytes h = tt
 
-read-carried : (bytes : List ℕ) → AreBytes bytes → ReadCarried (read_of bytes)
-read-carried bytes h = either ReadCarried (eqb (length bytes) 8) (values-carried (type_of (get_or bytes 0 0)) bytes h) tt
+read_carried : (bytes : List ℕ) → AreBytes bytes → ReadCarried (read_of bytes)
+read_carried bytes h = either ReadCarried (eqb (length bytes) 8) (values_carried (type_of (get_or bytes 0 0)) bytes h) tt
 
 -- ---- what an admitted frame is: a slave's, at a good reading
 
@@ -138,12 +138,12 @@ AdmittedWith P (Admitted values) = P values
 abbrev ForSlave : Role → Frame → Type 0
 ForSlave role values = (role ≡ Slave) × Carried values
 
-read-for : (r : Read) (own : ℕ) (role : Role) → ReadCarried r → AdmittedWith (ForSlave role) (readFor r own role)
-read-for LengthNot8 own role h = tt
-read-for NoSuchType own role h = tt
-read-for (Values values) own role h =
-    either-told (AdmittedWith (ForSlave role)) (isFor own role (domainIn values) slave)
-    (λ e. (slave-admitted role (both (eqb (domainIn values) own) (isIn role slave) e).1, h)) (λ e. tt)
+read_for_lem : (r : Read) (own : ℕ) (role : Role) → ReadCarried r → AdmittedWith (ForSlave role) (read_for r own role)
+read_for_lem LengthNot8 own role h = tt
+read_for_lem NoSuchType own role h = tt
+read_for_lem (Values values) own role h =
+    either_told (AdmittedWith (ForSlave role)) (is_for own role (domain_in values) slave)
+    (λ e. (slave_admitted role (both (eqb (domain_in values) own) (is_in role slave) e).1, h)) (λ e. tt)
 
 module _ (kept t : VirtualLocalTime) where
   abbrev Onward : Type 0
@@ -153,78 +153,78 @@ module _ (kept t : VirtualLocalTime) where
   always (Refused refusal) p = tt
   always (Admitted values) p = p
 
-  admitted-onward :
+  admitted_onward :
       (own : ℕ) (role : Role) (bytes : List ℕ) →
-      AdmittedWith (λ values. Onward) (frameAdmitted kept t own role bytes)
-  admitted-onward own role bytes =
-      either-told (AdmittedWith (λ values. Onward)) (isGoodReading kept t)
-      (λ e. always (readFor (read_of bytes) own role) (good-reading kept t e)) (λ e. tt)
+      AdmittedWith (λ values. Onward) (frame_admitted kept t own role bytes)
+  admitted_onward own role bytes =
+      either_told (AdmittedWith (λ values. Onward)) (is_good_reading kept t)
+      (λ e. always (read_for (read_of bytes) own role) (good_reading kept t e)) (λ e. tt)
 
-  admitted-slave :
+  admitted_slave :
       (own : ℕ) (role : Role) (bytes : List ℕ) → AreBytes bytes →
-      AdmittedWith (ForSlave role) (frameAdmitted kept t own role bytes)
-  admitted-slave own role bytes h =
-      either (AdmittedWith (ForSlave role)) (isGoodReading kept t)
-      (read-for (read_of bytes) own role (read-carried bytes h)) tt
+      AdmittedWith (ForSlave role) (frame_admitted kept t own role bytes)
+  admitted_slave own role bytes h =
+      either (AdmittedWith (ForSlave role)) (is_good_reading kept t)
+      (read_for_lem (read_of bytes) own role (read_carried bytes h)) tt
 
 -- ---- SYNC: the base is before it
 
-base-before :
+base_before :
     (counter row : ℕ) (t : VirtualLocalTime) (most : ℕ) (b : Held) → HeldWithin most t b →
     BaseBefore (Seen counter row t) b
-base-before counter row t most Unset w = tt
-base-before counter row t most (Set b) w = w.2
+base_before counter row t most Unset w = tt
+base_before counter row t most (Set b) w = w.2
 
-base-first :
+base_first :
     (t : VirtualLocalTime) (s : Sync) (most : ℕ) (b : Held) → HeldWithin most t b → BaseFirst (Open (pair_of t s)) b
-base-first t s most Unset w = tt
-base-first t s most (Set b) w = w.2
+base_first t s most Unset w = tt
+base_first t s most (Set b) w = w.2
 
-blank-with :
+blank_with :
     (b : Held) (d : Domain) (pairing : Pairing) (last : LastSync) → Blank b d →
-    Blank b (with_last (withPairing d pairing) last)
-blank-with Unset d pairing last w = w
-blank-with (Set b) d pairing last w = w
+    Blank b (with_last (with_pairing d pairing) last)
+blank_with Unset d pairing last w = w
+blank_with (Set b) d pairing last w = w
 
 -- its counter is not good: the row alone changes, and not that of the SYNC whose pair is open
 
-row-refused : (h row : ℕ) → row ≤ h → rowRefused h row ≤ h
-row-refused h row le = either (λ (r : ℕ). r ≤ h) (ltb row h) (omega arith) le
+row_refused_lem : (h row : ℕ) → row ≤ h → row_refused h row ≤ h
+row_refused_lem h row le = either (λ (r : ℕ). r ≤ h) (ltb row h) (omega arith) le
 
-last-refused :
+last_refused :
     (kept : VirtualLocalTime) (h : ℕ) (last : LastSync) → LastWithin kept h last →
-    LastWithin kept h (with_row last (rowRefused h (row_of last)))
-last-refused kept h Unknown w = w
-last-refused kept h (Seen counter row at) w = (w.0, row-refused h row w.1, w.2)
+    LastWithin kept h (with_row last (row_refused h (row_of last)))
+last_refused kept h Unknown w = w
+last_refused kept h (Seen counter row at) w = (w.0, row_refused_lem h row w.1, w.2)
 
-own-refused :
-    (h : ℕ) (last : LastSync) (p : Pair) → OfLast h last p → OfLast h (with_row last (rowRefused h (row_of last))) p
-own-refused h Unknown p own = own
-own-refused h (Seen counter row at) p own = (own.0, own.1, omega (arith, row_stays h row own.2, own.2))
+own_refused :
+    (h : ℕ) (last : LastSync) (p : Pair) → OfLast h last p → OfLast h (with_row last (row_refused h (row_of last))) p
+own_refused h Unknown p own = own
+own_refused h (Seen counter row at) p own = (own.0, own.1, omega (arith, row_stays h row own.2, own.2))
 
-pair-refused :
+pair_refused :
     (kept : VirtualLocalTime) (f h : ℕ) (last : LastSync) (p : Pairing) → PairWithin kept f h last p →
-    PairWithin kept f h (with_row last (rowRefused h (row_of last))) p
-pair-refused kept f h last Waiting w = tt
-pair-refused kept f h last (Open p) (whole, inl own) = (whole, inl (own-refused h last p own))
-pair-refused kept f h last (Open p) (whole, inr old) = (whole, inr old)
+    PairWithin kept f h (with_row last (row_refused h (row_of last))) p
+pair_refused kept f h last Waiting w = tt
+pair_refused kept f h last (Open p) (whole, inl own) = (whole, inl (own_refused h last p own))
+pair_refused kept f h last (Open p) (whole, inr old) = (whole, inr old)
 
-order-refused : (last : LastSync) (row : ℕ) (b : Held) → BaseBefore last b → BaseBefore (with_row last row) b
-order-refused Unknown row b w = w
-order-refused (Seen counter old at) row Unset w = tt
-order-refused (Seen counter old at) row (Set b) w = w
+order_refused : (last : LastSync) (row : ℕ) (b : Held) → BaseBefore last b → BaseBefore (with_row last row) b
+order_refused Unknown row b w = w
+order_refused (Seen counter old at) row Unset w = tt
+order_refused (Seen counter old at) row (Set b) w = w
 
 refused :
     (kept : VirtualLocalTime) (d : Domain) → SlaveGood kept d →
-    SlaveGood kept (with_last d (with_row d.last (rowRefused d.settings.hysteresis (row_of d.last))))
+    SlaveGood kept (with_last d (with_row d.last (row_refused d.settings.hysteresis (row_of d.last))))
 refused kept d g =
     record {
       base = g.base;
-      last = last-refused kept _ d.last g.last;
-      pair = pair-refused kept _ _ d.last d.pairing g.pair;
-      order = order-refused d.last _ d.base g.order;
+      last = last_refused kept _ d.last g.last;
+      pair = pair_refused kept _ _ d.last d.pairing g.pair;
+      order = order_refused d.last _ d.base g.order;
       first = g.first;
-      blank = blank-with d.base d d.pairing _ g.blank;
+      blank = blank_with d.base d d.pairing _ g.blank;
       run = g.run;
       never = g.never;
       next = g.next;
@@ -233,38 +233,38 @@ refused kept d g =
 -- it joins a row that is not complete: the open pair was of a complete one, which is forgotten since, so that L has
 -- passed
 
-free-lost :
+free_lost :
     (j l : ℕ) (last : LastSync) (new : ℕ) (t : VirtualLocalTime) (h : ℕ) (p : Pair) → OfLast h last p →
-    verdictOf j l last new t ≡ Free → l < span_of p.at t
-free-lost j l Unknown new t h p own e = absurd own
-free-lost j l (Seen counter row at) new t h p own e =
+    verdict_of j l last new t ≡ Free → l < span_of p.at t
+free_lost j l Unknown new t h p own e = absurd own
+free_lost j l (Seen counter row at) new t h p own e =
     let Lost : CounterVerdict → Type 0 = λ v. v ≡ Free → l < span_of p.at t in
-    either-told Lost (ltb l (span_of at t))
+    either_told Lost (ltb l (span_of at t))
     (λ late same. omega (arith, ltb-true l (span_of at t) late, ap (λ (r : VirtualLocalTime). r.0) own.1))
     (λ soon.
-    either Lost (leb 1 (jumpOf counter new) && leb (jumpOf counter new) j)
+    either Lost (leb 1 (jump_of counter new) && leb (jump_of counter new) j)
     (λ same. let no : ◌≡◌ {A = ℕ} 0 1 = cc in absurd (omega arith))
     (λ same. let no : ◌≡◌ {A = ℕ} 0 1 = cc in absurd (omega arith)))
     e
 
-row-full : (h : ℕ) (last : LastSync) (p : Pair) → OfLast h last p → h ≤ row_of last
-row-full h Unknown p own = absurd own
-row-full h (Seen counter row at) p own = own.2
+row_full : (h : ℕ) (last : LastSync) (p : Pair) → OfLast h last p → h ≤ row_of last
+row_full h Unknown p own = absurd own
+row_full h (Seen counter row at) p own = own.2
 
 -- what a SYNC that is the last leaves of the rest
 listened :
     (d : Domain) (t : VirtualLocalTime) (s : Sync) (row : ℕ) (pairing : Pairing) → Carried (sync s) → SlaveGood t d →
     row ≤ d.settings.hysteresis →
     PairWithin t d.settings.follow_up_time d.settings.hysteresis (Seen s.counter row t) pairing →
-    BaseFirst pairing d.base → SlaveGood t (withSync (withPairing d pairing) t s row)
+    BaseFirst pairing d.base → SlaveGood t (with_sync (with_pairing d pairing) t s row)
 listened d t s row pairing c g le pair first =
     record {
       base = g.base;
       last = (c.0, le, omega arith);
       pair = pair;
-      order = base-before s.counter row t _ d.base g.base;
+      order = base_before s.counter row t _ d.base g.base;
       first = first;
-      blank = blank-with d.base d pairing _ g.blank;
+      blank = blank_with d.base d pairing _ g.blank;
       run = g.run;
       never = g.never;
       next = g.next;
@@ -273,7 +273,7 @@ listened d t s row pairing c g le pair first =
 -- ---- FUP
 
 abbrev JoinedWith : (h : ℕ) → LastSync → Fup → Joined → Type 0
-JoinedWith h last f (not-joined refusal) = Unit {0}
+JoinedWith h last f (not_joined refusal) = Unit {0}
 JoinedWith h last f (With p) = (p.seconds < 4294967296) × OfLast h last p × (f.nanoseconds ≤ 999999999)
 
 own_pair :
@@ -284,51 +284,51 @@ own_pair t most h last p young (inr old) = absurd (omega (arith, young, old))
 
 joined :
     (most h : ℕ) (last : LastSync) (pairing : Pairing) (t : VirtualLocalTime) (f : Fup) →
-    PairWithin t most h last pairing → JoinedWith h last f (joinedOf most pairing t f)
+    PairWithin t most h last pairing → JoinedWith h last f (joined_of most pairing t f)
 joined most h last pairing t f within =
-    by-joined (JoinedWith h last f) most pairing t f tt tt tt
+    by_joined (JoinedWith h last f) most pairing t f tt tt tt
     (λ p told.
     let w = subst (PairWithin t most h last) told.held within in
-    (w.0, own_pair t most h last p told.young w.1, told.in-range))
+    (w.0, own_pair t most h last p told.young w.1, told.in_range))
 
-pub pair-before :
+pub pair_before :
     (t : VirtualLocalTime) (h : ℕ) (last : LastSync) (p : Pair) → OfLast h last p → LastWithin t h last →
     p.at.0 ≤ t.0
-pair-before t h Unknown p own w = absurd own
-pair-before t h (Seen counter row at) p own w = omega (arith, ap (λ (r : VirtualLocalTime). r.0) own.1, w.2)
+pair_before t h Unknown p own w = absurd own
+pair_before t h (Seen counter row at) p own w = omega (arith, ap (λ (r : VirtualLocalTime). r.0) own.1, w.2)
 
-base-of-last :
-    (h : ℕ) (last : LastSync) (p : Pair) (f : Fup) → OfLast h last p → BaseBefore last (Set (newBase p f))
-base-of-last h Unknown p f own = own
-base-of-last h (Seen counter row at) p f own = omega (arith, ap (λ (r : VirtualLocalTime). r.0) own.1)
+base_of_last :
+    (h : ℕ) (last : LastSync) (p : Pair) (f : Fup) → OfLast h last p → BaseBefore last (Set (new_base p f))
+base_of_last h Unknown p f own = own
+base_of_last h (Seen counter row at) p f own = omega (arith, ap (λ (r : VirtualLocalTime). r.0) own.1)
 
 -- the leap after an update has a run below the count, whatever was held
 module _ (count : ℕ) (least : 1 ≤ count) where
-  calmer-below : (held : Leap) → RunBelow count (calmer count held)
-  calmer-below None = tt
-  calmer-below (Future run) =
-      either-told (RunBelow count) (ltb (run + 1) count) (λ e. ltb-true (run + 1) count e) (λ e. tt)
-  calmer-below (Past run) =
-      either-told (RunBelow count) (ltb (run + 1) count) (λ e. ltb-true (run + 1) count e) (λ e. tt)
+  calmer_below : (held : Leap) → RunBelow count (calmer count held)
+  calmer_below None = tt
+  calmer_below (Future run) =
+      either_told (RunBelow count) (ltb (run + 1) count) (λ e. ltb-true (run + 1) count e) (λ e. tt)
+  calmer_below (Past run) =
+      either_told (RunBelow count) (ltb (run + 1) count) (λ e. ltb-true (run + 1) count e) (λ e. tt)
 
-  update-below :
+  update_below :
       (future past : ℕ) (held : Leap) (b : Held) (new : TimeBase) →
-      RunBelow count (updateOf future past count held b new).leap
-  update-below future past held Unset new = tt
-  update-below future past held (Set old) new =
-      either (RunBelow count) (isFuture future (movedBy old new)) (omega arith)
-      (either (RunBelow count) (isPast past (movedBy old new)) (omega arith) (calmer-below held))
+      RunBelow count (update_of future past count held b new).leap
+  update_below future past held Unset new = tt
+  update_below future past held (Set old) new =
+      either (RunBelow count) (is_future future (moved_by old new)) (omega arith)
+      (either (RunBelow count) (is_past past (moved_by old new)) (omega arith) (calmer_below held))
 
 module _ (d : Domain) (t : VirtualLocalTime) (p : Pair) (f : Fup) (leap : Leap)
     (below : RunBelow d.settings.clear_count leap)
     (j : JoinedWith d.settings.hysteresis d.last f (With p)) where
-  updated : f.ovs ≤ 3 → SlaveGood t d → SlaveGood t (updatedOf d p f leap)
+  updated : f.ovs ≤ 3 → SlaveGood t d → SlaveGood t (updated_of d p f leap)
   updated o g =
       record {
-        base = (omega (arith, j.0), j.2, pair-before t _ d.last p j.1 g.last);
+        base = (omega (arith, j.0), j.2, pair_before t _ d.last p j.1 g.last);
         last = g.last;
         pair = tt;
-        order = base-of-last _ d.last p f j.1;
+        order = base_of_last _ d.last p f j.1;
         first = tt;
         blank = tt;
         run = below;
@@ -340,7 +340,7 @@ module _ (d : Domain) (t : VirtualLocalTime) (p : Pair) (f : Fup) (leap : Leap)
 
 module _ (i : ℕ) (kept t : VirtualLocalTime) (d : Domain) (g : RecordGood i kept d) where
   abbrev StepGood : FrameStep → Type 0
-  StepGood s = RecordGood i (frameKept (frameNumber s.answer) kept t) s.domain
+  StepGood s = RecordGood i (frame_kept (frame_number s.answer) kept t) s.domain
 
   module _ (le : kept.0 ≤ t.0) (is : d.settings.role ≡ Slave) where
     abbrev at-t : RecordGood i t d
@@ -353,31 +353,31 @@ module _ (i : ℕ) (kept t : VirtualLocalTime) (d : Domain) (g : RecordGood i ke
     as-role after h = subst (λ (r : Role). RoleGood r t after) (sym is) h
 
     range : SlaveRange d.settings
-    range = slave-range d.settings (subst (λ (r : Role). isGoodAs r d.settings ≡ true) is g.settings)
+    range = slave_range d.settings (subst (λ (r : Role). is_good_as r d.settings ≡ true) is g.settings)
 
     -- a record that differs in its pairing and its last SYNC
     heard-good :
         (at : VirtualLocalTime) (pairing : Pairing) (last : LastSync) →
-        SlaveGood at (with_last (withPairing d pairing) last) → RecordGood i at (with_last (withPairing d pairing) last)
+        SlaveGood at (with_last (with_pairing d pairing) last) → RecordGood i at (with_last (with_pairing d pairing) last)
     heard-good at pairing last w =
         record {
           number = g.number;
           settings = g.settings;
-          settings-held = g.settings-held;
+          settings_held = g.settings_held;
           ids = g.ids;
           updates = g.updates;
-          role = subst (λ (r : Role). RoleGood r at (with_last (withPairing d pairing) last)) (sym is) w;
+          role = subst (λ (r : Role). RoleGood r at (with_last (with_pairing d pairing) last)) (sym is) w;
         }
 
     -- where the row is begun anew, a pair that is still open is older than F
     stale :
-        (s : Sync) → verdictFor d t s ≡ Free → (row : ℕ) (p : Pairing) →
+        (s : Sync) → verdict_for d t s ≡ Free → (row : ℕ) (p : Pairing) →
         PairWithin t d.settings.follow_up_time d.settings.hysteresis d.last p →
         PairWithin t d.settings.follow_up_time d.settings.hysteresis (Seen s.counter row t) p
     stale s free row Waiting w = tt
     stale s free row (Open p) (whole, inr old) = (whole, inr old)
     stale s free row (Open p) (whole, inl own) =
-        let lost = free-lost _ _ d.last s.counter t _ p own free in
+        let lost = free_lost _ _ d.last s.counter t _ p own free in
         (whole, inr (omega (arith, lost, range.loss.0)))
 
     -- and so it is where the row goes on
@@ -388,72 +388,72 @@ module _ (i : ℕ) (kept t : VirtualLocalTime) (d : Domain) (g : RecordGood i ke
     still-stale s lt row Waiting w = tt
     still-stale s lt row (Open p) (whole, inr old) = (whole, inr old)
     still-stale s lt row (Open p) (whole, inl own) =
-        absurd (omega (arith, lt, row-full _ d.last p own))
+        absurd (omega (arith, lt, row_full _ d.last p own))
 
-    opens : (s : Sync) → Carried (sync s) → RecordGood i t (withPair d t s d.settings.hysteresis)
+    opens : (s : Sync) → Carried (sync s) → RecordGood i t (with_pair d t s d.settings.hysteresis)
     opens s c =
         let h = d.settings.hysteresis in
         heard-good t (Open (pair_of t s)) (Seen s.counter h t)
         (listened d t s h (Open (pair_of t s)) c as-slave (omega arith) (c.1, inl (refl, refl, omega arith))
-        (base-first t s _ d.base as-slave.base))
+        (base_first t s _ d.base as-slave.base))
 
     joins-row :
         (s : Sync) (row : ℕ) → Carried (sync s) → row < d.settings.hysteresis →
         PairWithin t d.settings.follow_up_time d.settings.hysteresis (Seen s.counter row t) d.pairing →
-        RecordGood i t (withSync d t s row)
+        RecordGood i t (with_sync d t s row)
     joins-row s row c lt pair =
         heard-good t d.pairing (Seen s.counter row t)
         (listened d t s row d.pairing c as-slave (omega (arith, lt)) pair as-slave.first)
 
-    sync-as :
-        (s : Sync) → Carried (sync s) → (v : CounterVerdict) (k : RowCheck) → verdictFor d t s ≡ v →
-        Checked d.settings.hysteresis (row_of d.last) v k → StepGood (syncAs k d t s)
-    sync-as s c v k told refuses =
+    sync_as_lem :
+        (s : Sync) → Carried (sync s) → (v : CounterVerdict) (k : RowCheck) → verdict_for d t s ≡ v →
+        Checked d.settings.hysteresis (row_of d.last) v k → StepGood (sync_as k d t s)
+    sync_as_lem s c v k told refuses =
         heard-good kept d.pairing _ (refused kept d (subst (λ (r : Role). RoleGood r kept d) is g.role))
-    sync-as s c v k told (begins lt) = joins-row s 0 c lt (stale s told 0 d.pairing as-slave.pair)
-    sync-as s c v k told (alone le) = opens s c
-    sync-as s c v k told (joins lt) =
+    sync_as_lem s c v k told (begins lt) = joins-row s 0 c lt (stale s told 0 d.pairing as-slave.pair)
+    sync_as_lem s c v k told (alone le) = opens s c
+    sync_as_lem s c v k told (joins lt) =
         joins-row s (row_of d.last + 1) c lt (still-stale s lt _ d.pairing as-slave.pair)
-    sync-as s c v k told (completes le) = opens s c
+    sync_as_lem s c v k told (completes le) = opens s c
 
-    sync-step : (s : Sync) → Carried (sync s) → StepGood (syncOf d t s)
-    sync-step s c = sync-as s c (verdictFor d t s) (checkFor d t s) refl (checked _ _ (verdictFor d t s))
+    sync-step : (s : Sync) → Carried (sync s) → StepGood (sync_of d t s)
+    sync-step s c = sync_as_lem s c (verdict_for d t s) (check_for d t s) refl (checked _ _ (verdict_for d t s))
 
     count-least : 1 ≤ d.settings.clear_count
     count-least = range.leaps.count.0
 
     taken :
         (p : Pair) (f : Fup) (leap : Leap) → RunBelow d.settings.clear_count leap → f.ovs ≤ 3 →
-        JoinedWith d.settings.hysteresis d.last f (With p) → RecordGood i t (updatedOf d p f leap)
+        JoinedWith d.settings.hysteresis d.last f (With p) → RecordGood i t (updated_of d p f leap)
     taken p f leap below o j =
         record {
           number = g.number;
           settings = g.settings;
-          settings-held = g.settings-held;
+          settings_held = g.settings_held;
           ids = g.ids;
           updates = omega arith;
-          role = as-role (updatedOf d p f leap) (updated d t p f leap below j o as-slave);
+          role = as-role (updated_of d p f leap) (updated d t p f leap below j o as-slave);
         }
 
-    kept-good : (number : ℕ) → RecordGood i (frameKept number kept t) d
+    kept-good : (number : ℕ) → RecordGood i (frame_kept number kept t) d
     kept-good number =
         let P : VirtualLocalTime → Type 0 = λ k. RecordGood i k d in
         either P (eqb number 15) at-t (either P (eqb number 0) at-t g)
 
-    fup-as :
+    fup_as_lem :
         (j : Joined) (f : Fup) → f.ovs ≤ 3 → JoinedWith d.settings.hysteresis d.last f j →
-        StepGood (fupAs j d f)
-    fup-as (not-joined refusal) f o h = kept-good (number_of refusal)
-    fup-as (With p) f o h =
-        let u = updateIn d d.base (newBase p f) in
-        let below = update-below _ count-least _ _ d.leap d.base (newBase p f) in
-        subst (λ (n : ℕ). RecordGood i (frameKept n kept t) (updatedOf d p f u.leap))
-        (sym (update-taken _ _ _ _ d.base (newBase p f))) (taken p f u.leap below o h)
+        StepGood (fup_as j d f)
+    fup_as_lem (not_joined refusal) f o h = kept-good (number_of refusal)
+    fup_as_lem (With p) f o h =
+        let u = update_in d d.base (new_base p f) in
+        let below = update_below _ count-least _ _ d.leap d.base (new_base p f) in
+        subst (λ (n : ℕ). RecordGood i (frame_kept n kept t) (updated_of d p f u.leap))
+        (sym (update_taken _ _ _ _ d.base (new_base p f))) (taken p f u.leap below o h)
 
     kind-step : (values : Frame) → Carried values → StepGood (kind_of d t values)
     kind-step (sync s) c = sync-step s c
     kind-step (fup f) c =
-        fup-as (joinedOf d.settings.follow_up_time d.pairing t f) f c
+        fup_as_lem (joined_of d.settings.follow_up_time d.pairing t f) f c
         (joined _ _ d.last d.pairing t f as-slave.pair)
 
     frame_step : (bytes : List ℕ) (values : Frame) → Carried values → StepGood (frame_of d t bytes values)
@@ -462,34 +462,34 @@ module _ (i : ℕ) (kept t : VirtualLocalTime) (d : Domain) (g : RecordGood i ke
 
   -- ---- the call
 
-  call-good :
+  call_good :
       (a : FrameAdmission) (bytes : List ℕ) → AdmittedWith (λ values. Onward kept t) a →
       AdmittedWith (ForSlave d.settings.role) a →
-      RecordGood i (frameCallAs a d kept t bytes).kept (frameCallAs a d kept t bytes).domain
-  call-good (Refused refusal) bytes o s = g
-  call-good (Admitted values) bytes o s = frame_step o.0 s.0 bytes values s.1
+      RecordGood i (frame_call_as a d kept t bytes).kept (frame_call_as a d kept t bytes).domain
+  call_good (Refused refusal) bytes o s = g
+  call_good (Admitted values) bytes o s = frame_step o.0 s.0 bytes values s.1
 
-pub frame-good :
+pub frame_good :
     (i : ℕ) (kept t : VirtualLocalTime) (bytes : List ℕ) (d : Domain) → AreBytes bytes → RecordGood i kept d →
-    RecordGood i (frameCallOf d kept t bytes).kept (frameCallOf d kept t bytes).domain
-frame-good i kept t bytes d h g =
-    call-good i kept t d g (frameAdmitted kept t d.number d.settings.role bytes) bytes
-    (admitted-onward kept t d.number d.settings.role bytes)
-    (admitted-slave kept t d.number d.settings.role bytes h)
+    RecordGood i (frame_call_of d kept t bytes).kept (frame_call_of d kept t bytes).domain
+frame_good i kept t bytes d h g =
+    call_good i kept t d g (frame_admitted kept t d.number d.settings.role bytes) bytes
+    (admitted_onward kept t d.number d.settings.role bytes)
+    (admitted_slave kept t d.number d.settings.role bytes h)
 
 -- ---- the kept reading
 
 module _ (kept t : VirtualLocalTime) (bytes : List ℕ) (d : Domain) where
   call_kept :
       (a : FrameAdmission) → AdmittedWith (λ values. Onward kept t) a →
-      Grows kept (frameCallAs a d kept t bytes).kept
-  call_kept (Refused refusal) o = kept-stays kept
+      Grows kept (frame_call_as a d kept t bytes).kept
+  call_kept (Refused refusal) o = kept_stays kept
   call_kept (Admitted values) o =
-      let number = frameNumber (frame_of d t bytes values).answer in
+      let number = frame_number (frame_of d t bytes values).answer in
       let on : Grows kept t = (o.0, λ h. o.1) in
-      either (Grows kept) (eqb number 15) on (either (Grows kept) (eqb number 0) on (kept-stays kept))
+      either (Grows kept) (eqb number 15) on (either (Grows kept) (eqb number 0) on (kept_stays kept))
 
-  pub frame-kept : Grows kept (frameCallOf d kept t bytes).kept
-  frame-kept =
-      call_kept (frameAdmitted kept t d.number d.settings.role bytes)
-      (admitted-onward kept t d.number d.settings.role bytes)
+  pub frame_kept_lem : Grows kept (frame_call_of d kept t bytes).kept
+  frame_kept_lem =
+      call_kept (frame_admitted kept t d.number d.settings.role bytes)
+      (admitted_onward kept t d.number d.settings.role bytes)

@@ -13,37 +13,37 @@ use lib.ListN.{length}
 use Rattle.promise.proofs.Tests.{either}
 use Rattle.clock.specs.declared.reading.VirtualLocalTime.{VirtualLocalTime}
 use Rattle.frame_read.specs.Read.{read_of}
-use Rattle.refusal.specs.declared.Refusal.TheVariants.{NoRoom, Domain as not-for}
+use Rattle.refusal.specs.declared.Refusal.TheVariants.{NoRoom, Domain as not_for_lem}
 use Rattle.settings.specs.Node.{places}
 use Rattle.admission.specs.declared.Admission.{Admission}
 use Rattle.admission.specs.declared.Admission.TheVariants.{Admitted, Refused}
 use Rattle.admission.specs.declared.frames.FrameAdmission.{FrameAdmission}
 use Rattle.admission.specs.declared.frames.FrameAdmission.TheVariants.{Admitted as admitted, Refused as refused}
 use Rattle.admission.specs.declared.Needed.TheVariants.{Master}
-use Rattle.admission.specs.Reading.{isGoodReading}
-use Rattle.admission.specs.Admission.{isFor}
-use Rattle.admission.specs.FrameAdmission.{readFor}
+use Rattle.admission.specs.Reading.{is_good_reading}
+use Rattle.admission.specs.Admission.{is_for}
+use Rattle.admission.specs.FrameAdmission.{read_for}
 use Rattle.domain.specs.declared.Domain.{Domain}
-use Rattle.domain.specs.Records.{recordAt}
+use Rattle.domain.specs.Records.{record_at}
 use Rattle.slave_answer.specs.declared.FrameAnswer.{FrameAnswer}
-use Rattle.slave_answer.specs.Answer.{frameNumber}
+use Rattle.slave_answer.specs.Answer.{frame_number}
 use Rattle.master_set.specs.declared.SetAnswer.{SetAnswer}
-use Rattle.master_set.specs.Set.{setNumber}
-use Rattle.master_send.specs.Send.{sendOf}
+use Rattle.master_set.specs.Set.{set_number}
+use Rattle.master_send.specs.Send.{send_of}
 use Rattle.master_confirm.specs.declared.ConfirmAnswer.{ConfirmAnswer}
-use Rattle.master_confirm.specs.Confirm.{confirmNumber}
-use Rattle.call_frame.specs.FrameCall.{frameCallAs}
-use Rattle.call_set.specs.SetCall.{setCallAs}
-use Rattle.call_confirm.specs.ConfirmCall.{confirmCallAs}
-use Rattle.round.specs.FirstDue.{servedOf}
+use Rattle.master_confirm.specs.Confirm.{confirm_number}
+use Rattle.call_frame.specs.FrameCall.{frame_call_as}
+use Rattle.call_set.specs.SetCall.{set_call_as}
+use Rattle.call_confirm.specs.ConfirmCall.{confirm_call_as}
+use Rattle.round.specs.FirstDue.{served_of}
 use Rattle.round.proofs.Places.{among}
-use Rattle.round.proofs.FirstDue.{first-due}
+use Rattle.round.proofs.FirstDue.{first_due}
 use Rattle.node.specs.declared.Node.{Node}
 use Rattle.node.specs.declared.cycles.NodeCycle.{NodeCycle}
-use Rattle.node.specs.Frame.{addressedBy}
-use Rattle.node.specs.CycleAnswer.{cycleNumber, cycleCount}
-use Rattle.node.specs.Cycle.{isRoomFor, goneFrom, cycledBy, cycleRefused, cycleBytes}
-use Rattle.node.specs.Confirm.{confirmedBytes}
+use Rattle.node.specs.Frame.{addressed_by}
+use Rattle.node.specs.CycleAnswer.{cycle_number, cycle_count}
+use Rattle.node.specs.Cycle.{is_room_for, gone_from, cycled_by, cycle_refused, cycle_bytes}
+use Rattle.node.specs.Confirm.{confirmed_bytes}
 use Rattle.node_call.specs.Calls.{
   Call,
   frame,
@@ -52,13 +52,13 @@ use Rattle.node_call.specs.Calls.{
   cycle,
   confirm,
   reading_of,
-  nodeAfter,
-  nodeAfterAll,
+  node_after,
+  node_after_all,
   Answer,
   numbered,
   sends,
   follows,
-  answerTo,
+  answer_to,
 }
 use Rattle.node_laws.specs.Apart.{Own, AllElsewhere, keeping, Timely, OwnSent}
 use Rattle.node_laws.proofs.Independent.{independent}
@@ -68,86 +68,86 @@ use Rattle.node_laws.proofs.Independent.{independent}
 module _ (d : Domain) (k l t : VirtualLocalTime) where
   frame_same :
       (a : FrameAdmission) (bytes : List ℕ) →
-      (frameCallAs a d k t bytes).answer ≡ (frameCallAs a d l t bytes).answer
+      (frame_call_as a d k t bytes).answer ≡ (frame_call_as a d l t bytes).answer
   frame_same (refused refusal) bytes = refl
   frame_same (admitted values) bytes = refl
 
   set_same :
       (a : Admission) (seconds nanoseconds : ℕ) →
-      (setCallAs a d k t seconds nanoseconds).answer ≡ (setCallAs a d l t seconds nanoseconds).answer
+      (set_call_as a d k t seconds nanoseconds).answer ≡ (set_call_as a d l t seconds nanoseconds).answer
   set_same (Refused refusal) seconds nanoseconds = refl
   set_same Admitted seconds nanoseconds = refl
 
-  confirm-same :
+  confirm_same :
       (a : Admission) (counter length : ℕ) →
-      (confirmCallAs a d k t counter length).answer ≡ (confirmCallAs a d l t counter length).answer
-  confirm-same (Refused refusal) counter length = refl
-  confirm-same Admitted counter length = refl
+      (confirm_call_as a d k t counter length).answer ≡ (confirm_call_as a d l t counter length).answer
+  confirm_same (Refused refusal) counter length = refl
+  confirm_same Admitted counter length = refl
 
 module _ (n : Node) (k t : VirtualLocalTime) (out : List ℕ) where
-  abbrev cycleTold : Node → NodeCycle → Answer
-  cycleTold m r = sends (cycleNumber r.answer) (cycleCount r.answer) (cycleBytes r.answer m t out)
+  abbrev cycle_told : Node → NodeCycle → Answer
+  cycle_told m r = sends (cycle_number r.answer) (cycle_count r.answer) (cycle_bytes r.answer m t out)
 
   abbrev gone : Node → NodeCycle
-  gone m = cycledBy m t (goneFrom m t)
+  gone m = cycled_by m t (gone_from m t)
 
-  cycle-same :
+  cycle_same :
       (room : Bool) →
-      cycleTold (keeping n k) (cond room (gone (keeping n k)) (cycleRefused (keeping n k) NoRoom))
-      ≡ cycleTold n (cond room (gone n) (cycleRefused n NoRoom))
-  cycle-same true = refl
-  cycle-same false = refl
+      cycle_told (keeping n k) (cond room (gone (keeping n k)) (cycle_refused (keeping n k) NoRoom))
+      ≡ cycle_told n (cond room (gone n) (cycle_refused n NoRoom))
+  cycle_same true = refl
+  cycle_same false = refl
 
 -- ---- a call
 
 -- a master's domain, asked for
-abbrev pub forMaster : Domain → (asked : ℕ) → Admission
-forMaster d asked = cond (isFor d.number d.settings.role asked Master) Admitted (Refused not-for)
+abbrev pub for_master : Domain → (asked : ℕ) → Admission
+for_master d asked = cond (is_for d.number d.settings.role asked Master) Admitted (Refused not_for_lem)
 
 same_answer :
-    (n : Node) (k : VirtualLocalTime) (c : Call) → isGoodReading n.kept (reading_of c) ≡ true →
-    isGoodReading k (reading_of c) ≡ true → answerTo (keeping n k) c ≡ answerTo n c
+    (n : Node) (k : VirtualLocalTime) (c : Call) → is_good_reading n.kept (reading_of c) ≡ true →
+    is_good_reading k (reading_of c) ≡ true → answer_to (keeping n k) c ≡ answer_to n c
 same_answer n k (frame t bytes) p q =
-    let d = recordAt n.domains (addressedBy bytes) in
-    let admission = readFor (read_of bytes) d.number d.settings.role in
+    let d = record_at n.domains (addressed_by bytes) in
+    let admission = read_for (read_of bytes) d.number d.settings.role in
     rw (p, q)
-    (ap (λ (a : FrameAnswer). numbered (frameNumber a)) (frame_same d k n.kept t admission bytes))
+    (ap (λ (a : FrameAnswer). numbered (frame_number a)) (frame_same d k n.kept t admission bytes))
 same_answer n k (read domain t) p q = rw (p, q) refl
 same_answer n k (set domain t s ns) p q =
-    let d = recordAt n.domains (domain % places) in
+    let d = record_at n.domains (domain % places) in
     rw (p, q)
-    (ap (λ (a : SetAnswer). numbered (setNumber a)) (set_same d k n.kept t (forMaster d domain) s ns))
-same_answer n k (cycle t out) p q = rw (p, q) (cycle-same n k t out (isRoomFor n (length out)))
+    (ap (λ (a : SetAnswer). numbered (set_number a)) (set_same d k n.kept t (for_master d domain) s ns))
+same_answer n k (cycle t out) p q = rw (p, q) (cycle_same n k t out (is_room_for n (length out)))
 same_answer n k (confirm domain t counter out) p q =
-    let d = recordAt n.domains (domain % places) in
-    let told : ConfirmAnswer → Answer = λ a. follows (confirmNumber a) (confirmedBytes a n domain out) in
-    rw (p, q) (ap told (confirm-same d k n.kept t (forMaster d domain) counter (length out)))
+    let d = record_at n.domains (domain % places) in
+    let told : ConfirmAnswer → Answer = λ a. follows (confirm_number a) (confirmed_bytes a n domain out) in
+    rw (p, q) (ap told (confirm_same d k n.kept t (for_master d domain) counter (length out)))
 
-pub through-one :
+pub through_one :
     (n : Node) (k : VirtualLocalTime) (c : Call) → Timely n c → Timely (keeping n k) c →
-    answerTo (keeping n k) c ≡ answerTo n c
-through-one n k c p q = same_answer n k c p q
+    answer_to (keeping n k) c ≡ answer_to n c
+through_one n k c p q = same_answer n k c p q
 
 -- ---- calls for other domains
 
-pub save-number-one :
+pub save_number_one :
     (n : Node) (cs : List Call) (c : Call) (i : ℕ) → AllElsewhere n cs i → Own c i →
-    Timely n c → Timely (nodeAfterAll n cs) c → answerTo (nodeAfterAll n cs) c ≡ answerTo n c
-save-number-one n cs c i e o p q = independent n cs c i e o ∙ through-one n (nodeAfterAll n cs).kept c p q
+    Timely n c → Timely (node_after_all n cs) c → answer_to (node_after_all n cs) c ≡ answer_to n c
+save_number_one n cs c i e o p q = independent n cs c i e o ∙ through_one n (node_after_all n cs).kept c p q
 
 -- ---- a main cycle
 
-pub cycle-own :
+pub cycle_own :
     (n : Node) (t : VirtualLocalTime) (out : List ℕ) (i : ℕ) → length n.domains ≡ places →
-    OwnSent (recordAt n.domains i) t (recordAt (nodeAfter n (cycle t out)).domains i)
-cycle-own n t out i size =
-    let P : NodeCycle → Type 0 = λ r. OwnSent (recordAt n.domains i) t (recordAt r.node.domains i) in
-    let served = servedOf n.domains n.round t n.syncs_per_cycle in
-    let told = first-due n.domains n.round t n.syncs_per_cycle size in
-    either P (isGoodReading n.kept t)
-    (either P (isRoomFor n (length out))
+    OwnSent (record_at n.domains i) t (record_at (node_after n (cycle t out)).domains i)
+cycle_own n t out i size =
+    let P : NodeCycle → Type 0 = λ r. OwnSent (record_at n.domains i) t (record_at r.node.domains i) in
+    let served = served_of n.domains n.round t n.syncs_per_cycle in
+    let told = first_due n.domains n.round t n.syncs_per_cycle size in
+    either P (is_good_reading n.kept t)
+    (either P (is_room_for n (length out))
     (among
-    (λ (p : ℕ). recordAt (goneFrom n t).domains p ≡ (sendOf (recordAt n.domains p) t).domain)
-    (P (cycledBy n t (goneFrom n t))) i inr served told.sends (λ others. inl (told.stays i others)))
+    (λ (p : ℕ). record_at (gone_from n t).domains p ≡ (send_of (record_at n.domains p) t).domain)
+    (P (cycled_by n t (gone_from n t))) i inr served told.sends (λ others. inl (told.stays i others)))
     (inl refl))
     (inl refl)

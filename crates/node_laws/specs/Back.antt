@@ -11,15 +11,15 @@ use Rattle.frame.specs.Types.{type_of}
 use Rattle.frame_read.specs.declared.Read.TheVariants.{Values}
 use Rattle.frame_read.specs.Read.{read_of}
 use Rattle.frame_write.specs.Write.{bytes_of}
-use Rattle.frame_laws.specs.RoundTrip.{AreBytes, zeroReserved, rightIfSecured}
+use Rattle.frame_laws.specs.RoundTrip.{AreBytes, zero_reserved, right_if_secured}
 use Rattle.settings.specs.Node.{places}
 use Rattle.domain.specs.declared.Domain.{Domain}
 use Rattle.master_send.specs.declared.SendAnswer.TheVariants.{Sent}
-use Rattle.master_send.specs.Send.{sendOf}
-use Rattle.domain.specs.Records.{recordAt}
+use Rattle.master_send.specs.Send.{send_of}
+use Rattle.domain.specs.Records.{record_at}
 use Rattle.node.specs.declared.Node.{Node}
-use Rattle.node.specs.Frame.{addressedBy}
-use Rattle.node_call.specs.Calls.{frame as frame-call, answerTo, number_in}
+use Rattle.node.specs.Frame.{addressed_by}
+use Rattle.node_call.specs.Calls.{frame as frame-call, answer_to, number_in}
 
 -- ---- frames one after another; eight bytes
 abbrev pub joined : List (List ℕ) → List ℕ
@@ -33,27 +33,27 @@ IsEight frame = length frame ≡ 8
 pub record SyncBack (ds : List Domain) (t : VirtualLocalTime) (frame : List ℕ) : Type 0 where
   pub place : ℕ
   pub values : Sync
-  pub sent : (sendOf (recordAt ds place) t).answer ≡ Sent values
-  pub bytes : frame ≡ bytes_of (recordAt ds place).settings.ids (sync values)
+  pub sent : (send_of (record_at ds place) t).answer ≡ Sent values
+  pub bytes : frame ≡ bytes_of (record_at ds place).settings.ids (sync values)
   pub back : read_of frame ≡ Values (sync values)
 
 -- ---- what holds of the frame that a record sends, if it sends one
 abbrev pub OfSent : (List ℕ → Type 0) → VirtualLocalTime → List Domain → Type 0
 OfSent P t ds =
-    (i : ℕ) → i < places → (values : Sync) → (sendOf (recordAt ds i) t).answer ≡ Sent values →
-    P (bytes_of (recordAt ds i).settings.ids (sync values))
+    (i : ℕ) → i < places → (values : Sync) → (send_of (record_at ds i) t).answer ≡ Sent values →
+    P (bytes_of (record_at ds i).settings.ids (sync values))
 
 -- ---- bytes that read as values, and are written back from them by their domain's Data-IDs
 pub record FrameBack (ids : DataIds) (bytes : List ℕ) : Type 0 where
   pub values : Frame
   pub read : read_of bytes ≡ Values values
   pub back :
-      zeroReserved (type_of (get_or bytes 0 0)) bytes ≡ true →
-      rightIfSecured (type_of (get_or bytes 0 0)) ids bytes ≡ true →
+      zero_reserved (type_of (get_or bytes 0 0)) bytes ≡ true →
+      right_if_secured (type_of (get_or bytes 0 0)) ids bytes ≡ true →
       bytes_of ids values ≡ bytes
 
 -- ---- so each frame that is accepted
 abbrev pub AcceptedBack : Node → VirtualLocalTime → List ℕ → Type 0
 AcceptedBack n t bytes =
-    AreBytes bytes → number_in (answerTo n (frame-call t bytes)) ≡ 0 →
-    FrameBack (recordAt n.domains (addressedBy bytes)).settings.ids bytes
+    AreBytes bytes → number_in (answer_to n (frame-call t bytes)) ≡ 0 →
+    FrameBack (record_at n.domains (addressed_by bytes)).settings.ids bytes

@@ -5,7 +5,7 @@ use Rattle.clock.specs.declared.reading.VirtualLocalTime.{VirtualLocalTime}
 use Rattle.clock.specs.declared.time.GlobalTime.{GlobalTime}
 use Rattle.clock.specs.declared.base.TimeBase.{TimeBase}
 use Rattle.clock.specs.declared.base.Held.TheVariants.{Set}
-use Rattle.clock.specs.Time.{mostNanoseconds, nanosecondsOf, mostReceived, mostRead, Within}
+use Rattle.clock.specs.Time.{most_nanoseconds, nanoseconds_of, most_received, most_read, Within}
 use Rattle.frame.specs.declared.values.Fup.{Fup}
 use Rattle.settings.specs.declared.domain_settings.Role.TheVariants.{Slave}
 use Rattle.domain.specs.declared.Domain.{Domain}
@@ -20,10 +20,10 @@ use Rattle.call_read.specs.declared.ReadAnswer.TheVariants.{Time}
 -- ---- "A received time is at most 4,294,967,298 seconds, and a read time at most 5,294,967,298 seconds plus the
 -- nanoseconds": what a slave holds, and what a read shows.
 abbrev pub HoldsReceived : Domain → Type 0
-HoldsReceived d = d.settings.role ≡ Slave → (b : TimeBase) → d.base ≡ Set b → Within mostReceived b.time
+HoldsReceived d = d.settings.role ≡ Slave → (b : TimeBase) → d.base ≡ Set b → Within most_received b.time
 
 abbrev pub ShowsRead : ReadAnswer → Type 0
-ShowsRead answer = (shown : Shown) → answer ≡ Time shown → Within mostRead shown.time
+ShowsRead answer = (shown : Shown) → answer ≡ Time shown → Within most_read shown.time
 
 -- ---- "bits 1-0 OVS": a FUP's OVS has two bits.
 abbrev pub OvsMost : ConfirmAnswer → Type 0
@@ -31,7 +31,7 @@ OvsMost answer = (f : Fup) → answer ≡ Followed f → f.ovs ≤ 3
 
 -- ---- "that global time plus t minus that reading, exactly": g is `from`, true at `at`, carried on to t
 abbrev pub TimeExact : (from : GlobalTime) (at : VirtualLocalTime) (g : GlobalTime) (t : VirtualLocalTime) → Type 0
-TimeExact from at g t = nanosecondsOf g + at.0 ≡ nanosecondsOf from + t.0
+TimeExact from at g t = nanoseconds_of g + at.0 ≡ nanoseconds_of from + t.0
 
 -- ---- "The whole time is the SYNC's time plus the reading's advance": the seconds sent and OVS, and the nanoseconds,
 -- which are no whole second
@@ -40,4 +40,4 @@ pub record Follows (sending : Sending) (counter : ℕ) (t : VirtualLocalTime) (f
   pub at : VirtualLocalTime
   pub is : sending ≡ Open counter time.0 time.1 at
   pub exact : TimeExact time at (record { 0 = time.0 + f.ovs; 1 = f.nanoseconds }) t
-  pub part : f.nanoseconds ≤ mostNanoseconds
+  pub part : f.nanoseconds ≤ most_nanoseconds

@@ -3,8 +3,8 @@ use Rattle.std.specs.Prelude.{ℕ, ◌+◌, ◌≡◌, List, [], ◌∷◌, repl
 use Rattle.clock.specs.declared.reading.VirtualLocalTime.{VirtualLocalTime}
 use Rattle.settings.specs.declared.node_settings.NodeSettings.{NodeSettings}
 use Rattle.call_read.specs.declared.Shown.{Shown}
-use Rattle.node.specs.New.{newOf}
-use Rattle.bench_settings.specs.Bench.{benchWith}
+use Rattle.node.specs.New.{new_of}
+use Rattle.bench_settings.specs.Bench.{bench_with}
 use Rattle.node_call.specs.Calls.{
   Call,
   frame,
@@ -17,36 +17,36 @@ use Rattle.node_call.specs.Calls.{
   shows,
   sends,
   follows,
-  answersTo,
+  answers_to,
 }
 
 -- ---- calls; plain frames for domain 1
 abbrev reading : ℕ → VirtualLocalTime
 reading t = record { 0 = t }
 
-abbrev syncAt : (t counter : ℕ) → Call
-syncAt t counter = frame (reading t) (0x10 ∷ 0 ∷ (0x10 + counter) ∷ 0 ∷ 0 ∷ 0 ∷ 0 ∷ 100 ∷ [])
+abbrev sync_at : (t counter : ℕ) → Call
+sync_at t counter = frame (reading t) (0x10 ∷ 0 ∷ (0x10 + counter) ∷ 0 ∷ 0 ∷ 0 ∷ 0 ∷ 100 ∷ [])
 
-abbrev fupAt : (t counter : ℕ) → Call
-fupAt t counter = frame (reading t) (0x18 ∷ 0 ∷ (0x10 + counter) ∷ 0 ∷ 0 ∷ 0 ∷ 0 ∷ 100 ∷ [])
+abbrev fup_at : (t counter : ℕ) → Call
+fup_at t counter = frame (reading t) (0x18 ∷ 0 ∷ (0x10 + counter) ∷ 0 ∷ 0 ∷ 0 ∷ 0 ∷ 100 ∷ [])
 
-abbrev benchFup : (t : ℕ) → Call
-benchFup t = frame (reading t) (0x18 ∷ 0x00 ∷ 0x11 ∷ 0x00 ∷ 0x00 ∷ 0x00 ∷ 0x00 ∷ 0x64 ∷ [])
+abbrev bench_fup : (t : ℕ) → Call
+bench_fup t = frame (reading t) (0x18 ∷ 0x00 ∷ 0x11 ∷ 0x00 ∷ 0x00 ∷ 0x00 ∷ 0x00 ∷ 0x64 ∷ [])
 
 -- ---- "the seven lines above"
-abbrev pub benchCalls : List Call
-benchCalls =
+abbrev pub bench_calls : List Call
+bench_calls =
     frame (reading 5000000000) (0x10 ∷ 0xBB ∷ 0x11 ∷ 0xAA ∷ 0x00 ∷ 0x00 ∷ 0x0E ∷ 0x10 ∷ [])
-    ∷ benchFup 5010000000
+    ∷ bench_fup 5010000000
     ∷ read 1 (reading 6010000000)
-    ∷ benchFup 6020000000
+    ∷ bench_fup 6020000000
     ∷ set 2 (reading 7000000000) 100 999999000
     ∷ cycle (reading 7000000000) (replicate 8 0)
     ∷ confirm 2 (reading 7000500000) 0 (replicate 8 0)
     ∷ []
 
-abbrev benchShown : Shown
-benchShown =
+abbrev bench_shown : Shown
+bench_shown =
     record {
       time = record { 0 = 3601; 1 = 10000100 };
       status = 0x08;
@@ -54,11 +54,11 @@ benchShown =
       updates = 1;
     }
 
-abbrev benchAnswers : List Answer
-benchAnswers =
+abbrev bench_answers : List Answer
+bench_answers =
     numbered 0
     ∷ numbered 0
-    ∷ shows 0 benchShown
+    ∷ shows 0 bench_shown
     ∷ numbered 7
     ∷ numbered 0
     ∷ sends 0 1 (0x10 ∷ 0x00 ∷ 0x20 ∷ 0x00 ∷ 0x00 ∷ 0x00 ∷ 0x00 ∷ 0x64 ∷ [])
@@ -79,7 +79,7 @@ two case j one other number =
     record {
       first = case;
       last = case;
-      settings = benchWith j;
+      settings = bench_with j;
       calls = one ∷ other ∷ [];
       answers = numbered 0 ∷ numbered number ∷ [];
     }
@@ -88,15 +88,15 @@ two case j one other number =
 -- equal counter: 6. All three within L. P11: FUP exactly F after T2: taken. P12: F + 1: 7."
 abbrev pub cases : List Case
 cases =
-    record { first = 1; last = 7; settings = benchWith 2; calls = benchCalls; answers = benchAnswers }
-    ∷ two 8 1 (syncAt 1000000000 15) (syncAt 2000000000 0) 0
-    ∷ two 9 2 (syncAt 1000000000 0) (syncAt 2000000000 3) 6
-    ∷ two 10 2 (syncAt 1000000000 5) (syncAt 2000000000 5) 6
-    ∷ two 11 2 (syncAt 1000000000 5) (fupAt 1100000000 5) 0
-    ∷ two 12 2 (syncAt 1000000000 5) (fupAt 1100000001 5) 7
+    record { first = 1; last = 7; settings = bench_with 2; calls = bench_calls; answers = bench_answers }
+    ∷ two 8 1 (sync_at 1000000000 15) (sync_at 2000000000 0) 0
+    ∷ two 9 2 (sync_at 1000000000 0) (sync_at 2000000000 3) 6
+    ∷ two 10 2 (sync_at 1000000000 5) (sync_at 2000000000 5) 6
+    ∷ two 11 2 (sync_at 1000000000 5) (fup_at 1100000000 5) 0
+    ∷ two 12 2 (sync_at 1000000000 5) (fup_at 1100000001 5) 7
     ∷ []
 
 -- ---- every case's answers are the expected ones
 abbrev pub AsExpected : List Case → Type 0
 AsExpected [] = Unit {0}
-AsExpected (c ∷ rest) = (answersTo (newOf c.settings).node c.calls ≡ c.answers) × AsExpected rest
+AsExpected (c ∷ rest) = (answers_to (new_of c.settings).node c.calls ≡ c.answers) × AsExpected rest

@@ -5,12 +5,12 @@ use Rattle.clock.specs.declared.reading.VirtualLocalTime.{VirtualLocalTime}
 use Rattle.clock.specs.declared.base.Held.{Held}
 use Rattle.clock.specs.declared.base.Held.TheVariants.{Unset, Set}
 use Rattle.clock.specs.Reading.{span_of}
-use Rattle.clock.specs.Time.{mostNanoseconds, mostSet, mostReceived}
+use Rattle.clock.specs.Time.{most_nanoseconds, most_set, most_received}
 use Rattle.frame.specs.ByteTwo.{counters}
 use Rattle.settings.specs.declared.domain_settings.Role.{Role}
 use Rattle.settings.specs.declared.domain_settings.Role.TheVariants.{Absent, Slave, Master}
-use Rattle.settings.specs.Ranges.{isGood}
-use Rattle.settings.specs.Domain.{held_of, absentHeld}
+use Rattle.settings.specs.Ranges.{is_good}
+use Rattle.settings.specs.Domain.{held_of, absent_held}
 use Rattle.settings.specs.Node.{places}
 use Rattle.domain.specs.declared.Domain.{Domain}
 use Rattle.domain.specs.declared.Pair.{Pair}
@@ -23,14 +23,14 @@ use Rattle.domain.specs.declared.Sending.TheVariants.{Never, Open as open-sync, 
 use Rattle.domain.specs.declared.Leap.{Leap}
 use Rattle.domain.specs.declared.Leap.TheVariants.{None, Future, Past}
 use Rattle.domain.specs.Fresh.{fresh_of}
-use Rattle.domain.specs.Records.{recordAt}
+use Rattle.domain.specs.Records.{record_at}
 use Rattle.node.specs.declared.Node.{Node}
-use Rattle.node_laws.specs.Reachable.{areIds}
+use Rattle.node_laws.specs.Reachable.{are_ids}
 
 -- ---- a held time: seconds at most so many, nanoseconds in range, its reading at most the kept one
 abbrev pub HeldWithin : (most : ℕ) (kept : VirtualLocalTime) → Held → Type 0
 HeldWithin most kept Unset = Unit {0}
-HeldWithin most kept (Set b) = (b.time.0 ≤ most) × (b.time.1 ≤ mostNanoseconds) × (b.at.0 ≤ kept.0)
+HeldWithin most kept (Set b) = (b.time.0 ≤ most) × (b.time.1 ≤ most_nanoseconds) × (b.at.0 ≤ kept.0)
 
 -- ---- the SYNC last accepted, with a row of at most H
 abbrev pub LastWithin : (kept : VirtualLocalTime) (h : ℕ) → LastSync → Type 0
@@ -82,12 +82,12 @@ abbrev pub SentWithin : (kept : VirtualLocalTime) → Held → (next : ℕ) → 
 SentWithin kept base next Never = next ≡ 0
 SentWithin kept base next (open-sync counter seconds nanoseconds at) =
     BaseSet base × (counter < counters) × (next ≡ (counter + 1) % counters) × (seconds < 2 ^ 32)
-    × (nanoseconds ≤ mostNanoseconds) × (at.0 ≤ kept.0)
+    × (nanoseconds ≤ most_nanoseconds) × (at.0 ≤ kept.0)
 SentWithin kept base next (Confirmed at) = BaseSet base × (next < counters) × (at.0 ≤ kept.0)
 
 -- ---- a record in each role; what the other role adds is fresh
 pub record SlaveGood (kept : VirtualLocalTime) (d : Domain) : Type 0 where
-  pub base : HeldWithin mostReceived kept d.base
+  pub base : HeldWithin most_received kept d.base
   pub last : LastWithin kept d.settings.hysteresis d.last
   pub pair : PairWithin kept d.settings.follow_up_time d.settings.hysteresis d.last d.pairing
   pub order : BaseBefore d.last d.base
@@ -98,7 +98,7 @@ pub record SlaveGood (kept : VirtualLocalTime) (d : Domain) : Type 0 where
   pub next : d.next_counter ≡ 0
 
 pub record MasterGood (kept : VirtualLocalTime) (d : Domain) : Type 0 where
-  pub base : HeldWithin mostSet kept d.base
+  pub base : HeldWithin most_set kept d.base
   pub sent : SentWithin kept d.base d.next_counter d.sending
   pub blank : Blank d.base d
   pub waiting : d.pairing ≡ Waiting
@@ -106,15 +106,15 @@ pub record MasterGood (kept : VirtualLocalTime) (d : Domain) : Type 0 where
   pub stored : (d.user ≡ record { 0 = 0; 1 = 0; 2 = 0 }) × (d.sgw ≡ false) × (d.leap ≡ None)
 
 abbrev pub RoleGood : Role → (kept : VirtualLocalTime) → Domain → Type 0
-RoleGood Absent kept d = d ≡ fresh_of d.number absentHeld
+RoleGood Absent kept d = d ≡ fresh_of d.number absent_held
 RoleGood Slave kept d = SlaveGood kept d
 RoleGood Master kept d = MasterGood kept d
 
 pub record RecordGood (i : ℕ) (kept : VirtualLocalTime) (d : Domain) : Type 0 where
   pub number : d.number ≡ i
-  pub settings : isGood d.settings ≡ true
-  pub settings-held : held_of d.settings ≡ d.settings
-  pub ids : areIds d.settings.ids ≡ true
+  pub settings : is_good d.settings ≡ true
+  pub settings_held : held_of d.settings ≡ d.settings
+  pub ids : are_ids d.settings.ids ≡ true
   pub updates : d.updates < 256
   pub role : RoleGood d.settings.role kept d
 
@@ -123,4 +123,4 @@ pub record Good (n : Node) : Type 0 where
   pub kept : n.kept.0 ≤ 1000000000000000000
   pub syncs : (1 ≤ n.syncs_per_cycle) × (n.syncs_per_cycle ≤ 16)
   pub round : n.round < places
-  pub records : (i : ℕ) → i < places → RecordGood i n.kept (recordAt n.domains i)
+  pub records : (i : ℕ) → i < places → RecordGood i n.kept (record_at n.domains i)

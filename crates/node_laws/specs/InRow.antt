@@ -15,11 +15,11 @@ use Rattle.settings.specs.declared.domain_settings.DomainSettings.{DomainSetting
 use Rattle.settings.specs.declared.node_settings.NodeSettings.{NodeSettings}
 use Rattle.domain.specs.declared.Pair.{Pair}
 use Rattle.domain.specs.declared.Pairing.TheVariants.{Open}
-use Rattle.slave_counter.specs.Counter.{jumpOf}
+use Rattle.slave_counter.specs.Counter.{jump_of}
 use Rattle.node.specs.declared.Node.{Node}
-use Rattle.node.specs.New.{newOf}
-use Rattle.node.specs.Frame.{addressedBy}
-use Rattle.node_call.specs.Calls.{Call, frame, read, set, cycle, confirm, nodeAfter, nodeAfterAll, answerTo, number_in}
+use Rattle.node.specs.New.{new_of}
+use Rattle.node.specs.Frame.{addressed_by}
+use Rattle.node_call.specs.Calls.{Call, frame, read, set, cycle, confirm, node_after, node_after_all, answer_to, number_in}
 use Rattle.node_laws.specs.Reachable.{AreCalls, IsSettings, Reachable}
 use Rattle.node_laws.specs.Excepted.{named}
 
@@ -28,36 +28,36 @@ pub data Heard : Type 0 where
   accepted : (counter : ℕ) (at : VirtualLocalTime) → Heard
   refused : Heard
 
-abbrev pub syncHeard : VirtualLocalTime → Sync → (number : ℕ) → List Heard
-syncHeard t s number =
+abbrev pub sync_heard : VirtualLocalTime → Sync → (number : ℕ) → List Heard
+sync_heard t s number =
     cond (eqb number 6) (refused ∷ [])
     (cond (eqb number 0) (accepted s.counter t ∷ [])
     (cond (eqb number 15) (accepted s.counter t ∷ []) []))
 
-abbrev pub heardOf : VirtualLocalTime → Read → (number : ℕ) → List Heard
-heardOf t (Values (sync s)) number = syncHeard t s number
-heardOf t (Values (fup f)) number = []
-heardOf t LengthNot8 number = []
-heardOf t NoSuchType number = []
+abbrev pub heard_of : VirtualLocalTime → Read → (number : ℕ) → List Heard
+heard_of t (Values (sync s)) number = sync_heard t s number
+heard_of t (Values (fup f)) number = []
+heard_of t LengthNot8 number = []
+heard_of t NoSuchType number = []
 
 -- ---- Those of the domain at place i, of a call; of calls one after another, the newest first, before older ones.
-abbrev pub heardBy : (i : ℕ) → Node → Call → List Heard
-heardBy i n (frame t bytes) =
-    cond (eqb (addressedBy bytes) i) (heardOf t (read_of bytes) (number_in (answerTo n (frame t bytes)))) []
-heardBy i n (read domain t) = []
-heardBy i n (set domain t seconds nanoseconds) = []
-heardBy i n (cycle t out) = []
-heardBy i n (confirm domain t counter out) = []
+abbrev pub heard_by : (i : ℕ) → Node → Call → List Heard
+heard_by i n (frame t bytes) =
+    cond (eqb (addressed_by bytes) i) (heard_of t (read_of bytes) (number_in (answer_to n (frame t bytes)))) []
+heard_by i n (read domain t) = []
+heard_by i n (set domain t seconds nanoseconds) = []
+heard_by i n (cycle t out) = []
+heard_by i n (confirm domain t counter out) = []
 
-abbrev pub heardIn : (i : ℕ) → Node → List Call → (older : List Heard) → List Heard
-heardIn i n [] older = older
-heardIn i n (c ∷ rest) older = heardIn i (nodeAfter n c) rest (heardBy i n c ++ older)
+abbrev pub heard_in : (i : ℕ) → Node → List Call → (older : List Heard) → List Heard
+heard_in i n [] older = older
+heard_in i n (c ∷ rest) older = heard_in i (node_after n c) rest (heard_by i n c ++ older)
 
 -- ---- "a good counter": 1 to J after that of the SYNC accepted before it, which is at most L ago.
 abbrev pub IsNext : (j l counter : ℕ) → VirtualLocalTime → (older : List Heard) → Type 0
 IsNext j l counter t [] = ⊥
 IsNext j l counter t (accepted last at ∷ older) =
-    (span_of at t ≤ l) × (1 ≤ jumpOf last counter) × (jumpOf last counter ≤ j)
+    (span_of at t ≤ l) × (1 ≤ jump_of last counter) × (jump_of last counter ≤ j)
 IsNext j l counter t (refused ∷ older) = IsNext j l counter t older
 
 -- ---- "H further SYNC frames in a row with a good counter": the newest H, none of them refused.
@@ -91,13 +91,13 @@ abbrev pub TakenInRow : Type 0
 TakenInRow =
     (s : NodeSettings) → IsSettings s → (cs : List Call) → AreCalls cs →
     (t : VirtualLocalTime) (bytes : List ℕ) (f : Fup) → read_of bytes ≡ Values (fup f) →
-    let fresh = (newOf s).node in let n = nodeAfterAll fresh cs in
-    number_in (answerTo n (frame t bytes)) ≡ 0 →
-    AfterRow (named n bytes).settings t f (heardIn (addressedBy bytes) fresh cs [])
+    let fresh = (new_of s).node in let n = node_after_all fresh cs in
+    number_in (answer_to n (frame t bytes)) ≡ 0 →
+    AfterRow (named n bytes).settings t f (heard_in (addressed_by bytes) fresh cs [])
 
 -- ---- A pair that 15 leaves open is older than F already at the reading then kept, so that no FUP joins it.
 abbrev pub StalePair : Type 0
 StalePair =
     (n : Node) → Reachable n → (t : VirtualLocalTime) (bytes : List ℕ) → AreBytes bytes →
-    number_in (answerTo n (frame t bytes)) ≡ 15 → (p : Pair) → let after = nodeAfter n (frame t bytes) in
+    number_in (answer_to n (frame t bytes)) ≡ 15 → (p : Pair) → let after = node_after n (frame t bytes) in
     (named after bytes).pairing ≡ Open p → (named after bytes).settings.follow_up_time < span_of p.at after.kept

@@ -15,13 +15,13 @@ use Rattle.node_call.specs.Calls.{
   shows,
   sends,
   follows,
-  answerTo,
+  answer_to,
   number_in,
 }
 
 -- ---- the call is refused: its number is not 0
 abbrev pub IsRefused : Node → Call → Type 0
-IsRefused n c = number_in (answerTo n c) ≡ 0 → ⊥
+IsRefused n c = number_in (answer_to n c) ≡ 0 → ⊥
 
 -- ---- what a refused read shows
 abbrev pub zeros : Shown
@@ -34,9 +34,9 @@ zeros =
     }
 
 -- ---- The answer to a call that is refused with a number: no frame is counted, and the lent bytes are as they were.
-abbrev pub refusedBy : (number : ℕ) → Call → Answer
-refusedBy number (frame t bytes) = numbered number
-refusedBy number (read domain t) = shows number zeros
-refusedBy number (set domain t seconds nanoseconds) = numbered number
-refusedBy number (cycle t out) = sends number 0 out
-refusedBy number (confirm domain t counter out) = follows number out
+abbrev pub refused_by : (number : ℕ) → Call → Answer
+refused_by number (frame t bytes) = numbered number
+refused_by number (read domain t) = shows number zeros
+refused_by number (set domain t seconds nanoseconds) = numbered number
+refused_by number (cycle t out) = sends number 0 out
+refused_by number (confirm domain t counter out) = follows number out

@@ -5,7 +5,7 @@ use Rattle.std.specs.Prelude.{ℕ, ◌+◌, ◌*◌, ◌%◌, Bool, true, false,
 use Rattle.clock.specs.declared.reading.VirtualLocalTime.{VirtualLocalTime}
 use Rattle.clock.specs.declared.base.Held.{Held}
 use Rattle.clock.specs.declared.base.Held.TheVariants.{Unset, Set}
-use Rattle.clock.specs.Time.{isNanoseconds}
+use Rattle.clock.specs.Time.{is_nanoseconds}
 use Rattle.frame.specs.declared.types.FrameType.{FrameType}
 use Rattle.frame.specs.declared.types.FrameType.TheVariants.{
   PlainSync,
@@ -19,30 +19,30 @@ use Rattle.frame.specs.declared.values.Frame.TheVariants.{Sync as sync, Fup as f
 use Rattle.frame.specs.Types.{type_of}
 use Rattle.frame_read.specs.declared.Read.{Read}
 use Rattle.frame_read.specs.declared.Read.TheVariants.{Values, LengthNot8, NoSuchType}
-use Rattle.frame_read.specs.Read.{namedDomain, values_of}
+use Rattle.frame_read.specs.Read.{named_domain, values_of}
 use Rattle.frame_check.specs.Check.{is_taken}
 use Rattle.settings.specs.declared.node_settings.NodeSettings.{NodeSettings}
 use Rattle.settings.specs.Ranges.{within}
-use Rattle.settings.specs.Node.{places, allGood}
+use Rattle.settings.specs.Node.{places, all_good}
 use Rattle.admission.specs.declared.Needed.{Needed}
 use Rattle.admission.specs.declared.Needed.TheVariants.{Slave, Master, Either}
-use Rattle.admission.specs.Reading.{isGoodReading}
-use Rattle.admission.specs.Admission.{isFor}
+use Rattle.admission.specs.Reading.{is_good_reading}
+use Rattle.admission.specs.Admission.{is_for}
 use Rattle.domain.specs.declared.Domain.{Domain}
 use Rattle.domain.specs.declared.Pairing.{Pairing}
 use Rattle.domain.specs.declared.Pairing.TheVariants.{Waiting, Open as open-pair}
 use Rattle.domain.specs.declared.Sending.{Sending}
 use Rattle.domain.specs.declared.Sending.TheVariants.{Never, Open, Confirmed}
-use Rattle.domain.specs.Records.{recordAt}
+use Rattle.domain.specs.Records.{record_at}
 use Rattle.slave_counter.specs.declared.CounterVerdict.{CounterVerdict}
 use Rattle.slave_counter.specs.declared.CounterVerdict.TheVariants.{Free, Good, NotGood}
 use Rattle.slave_counter.specs.Row.{row_of}
-use Rattle.slave_pair.specs.Join.{isOld, isOther, isAbove}
-use Rattle.slave_sync.specs.Sync.{verdictFor}
-use Rattle.master_follow.specs.Follow.{isOpenFor}
+use Rattle.slave_pair.specs.Join.{is_old, is_other, is_above}
+use Rattle.slave_sync.specs.Sync.{verdict_for}
+use Rattle.master_follow.specs.Follow.{is_open_for}
 use Rattle.node.specs.declared.Node.{Node}
-use Rattle.node.specs.Frame.{addressedBy}
-use Rattle.node.specs.Cycle.{isRoomFor}
+use Rattle.node.specs.Frame.{addressed_by}
+use Rattle.node.specs.Cycle.{is_room_for}
 use Rattle.node_call.specs.Calls.{Call, frame, read, set, cycle, confirm}
 
 -- ---- A number and its test, which is true where the number is to be given; the first such number, else 0.
@@ -54,132 +54,132 @@ first_of [] = 0
 first_of (x ∷ rest) = cond x.1 x.0 (first_of rest)
 
 -- ---- 1 "reading above 10^18 or before the kept one"
-abbrev pub badReading : Node → VirtualLocalTime → Bool
-badReading n t = not (isGoodReading n.kept t)
+abbrev pub bad_reading : Node → VirtualLocalTime → Bool
+bad_reading n t = not (is_good_reading n.kept t)
 
 -- ---- 3 "byte 0 none of the four types"
-abbrev pub noType : FrameType → Bool
-noType PlainSync = false
-noType SecuredSync = false
-noType PlainFup = false
-noType SecuredFup = false
-noType Unknown = true
+abbrev pub no_type : FrameType → Bool
+no_type PlainSync = false
+no_type SecuredSync = false
+no_type PlainFup = false
+no_type SecuredFup = false
+no_type Unknown = true
 
 -- ---- 4 "domain above 15 or not in the role needed"
-abbrev pub notFor : Domain → (asked : ℕ) → Needed → Bool
-notFor d asked needed = not (isFor d.number d.settings.role asked needed)
+abbrev pub not_for : Domain → (asked : ℕ) → Needed → Bool
+not_for d asked needed = not (is_for d.number d.settings.role asked needed)
 
 -- ---- 6 "SYNC's counter not good"
-abbrev pub notGood : CounterVerdict → Bool
-notGood Free = false
-notGood Good = false
-notGood NotGood = true
+abbrev pub not_good : CounterVerdict → Bool
+not_good Free = false
+not_good Good = false
+not_good NotGood = true
 
 -- ---- 15 "SYNC good in counter but row not complete": "after the counter was unknown or forgotten, H further SYNC
 -- frames in a row with a good counter must come before any pair may be taken, the last of them opening one"; this one
 -- is not that last one
-abbrev pub notComplete : (h row : ℕ) → CounterVerdict → Bool
-notComplete h row Free = ltb 0 h
-notComplete h row Good = ltb (row + 1) h
-notComplete h row NotGood = false
+abbrev pub not_complete : (h row : ℕ) → CounterVerdict → Bool
+not_complete h row Free = ltb 0 h
+not_complete h row Good = ltb (row + 1) h
+not_complete h row NotGood = false
 
 -- ---- 7 "FUP with no open pair": "A pair older than F counts as not open"
-abbrev pub noOpenPair : (f : ℕ) → Pairing → VirtualLocalTime → Bool
-noOpenPair f Waiting t = true
-noOpenPair f (open-pair p) t = isOld f p t
+abbrev pub no_open_pair : (f : ℕ) → Pairing → VirtualLocalTime → Bool
+no_open_pair f Waiting t = true
+no_open_pair f (open-pair p) t = is_old f p t
 
 -- ---- 8 "FUP's counter not the pair's"
-abbrev pub notThePairs : Pairing → Fup → Bool
-notThePairs Waiting f = true
-notThePairs (open-pair p) f = isOther p f
+abbrev pub not_the_pairs : Pairing → Fup → Bool
+not_the_pairs Waiting f = true
+not_the_pairs (open-pair p) f = is_other p f
 
 -- ---- 10 "read of a base never set"
-abbrev pub neverSet : Held → Bool
-neverSet Unset = true
-neverSet (Set b) = false
+abbrev pub never_set : Held → Bool
+never_set Unset = true
+never_set (Set b) = false
 
 -- ---- 11 "confirmation with no open SYNC of that counter, or older than C"
-abbrev pub noOpenSync : (c : ℕ) → Sending → VirtualLocalTime → (counter : ℕ) → Bool
-noOpenSync c Never t counter = true
-noOpenSync c (Open sent seconds nanoseconds at) t counter = not (isOpenFor c sent at t counter)
-noOpenSync c (Confirmed at) t counter = true
+abbrev pub no_open_sync : (c : ℕ) → Sending → VirtualLocalTime → (counter : ℕ) → Bool
+no_open_sync c Never t counter = true
+no_open_sync c (Open sent seconds nanoseconds at) t counter = not (is_open_for c sent at t counter)
+no_open_sync c (Confirmed at) t counter = true
 
 -- ---- A frame: 1, 2, 3, 4, 5; then a SYNC 6, 15, a FUP 7, 8, 9.
-abbrev pub kindTests : Read → Domain → VirtualLocalTime → Tests
-kindTests (Values (sync s)) d t =
-    (6, notGood (verdictFor d t s))
-    ∷ (15, notComplete d.settings.hysteresis (row_of d.last) (verdictFor d t s))
+abbrev pub kind_tests : Read → Domain → VirtualLocalTime → Tests
+kind_tests (Values (sync s)) d t =
+    (6, not_good (verdict_for d t s))
+    ∷ (15, not_complete d.settings.hysteresis (row_of d.last) (verdict_for d t s))
     ∷ []
-kindTests (Values (fup f)) d t =
-    (7, noOpenPair d.settings.follow_up_time d.pairing t)
-    ∷ (8, notThePairs d.pairing f)
-    ∷ (9, isAbove f)
+kind_tests (Values (fup f)) d t =
+    (7, no_open_pair d.settings.follow_up_time d.pairing t)
+    ∷ (8, not_the_pairs d.pairing f)
+    ∷ (9, is_above f)
     ∷ []
-kindTests LengthNot8 d t = []
-kindTests NoSuchType d t = []
+kind_tests LengthNot8 d t = []
+kind_tests NoSuchType d t = []
 
-abbrev pub frameTests : Node → VirtualLocalTime → (bytes : List ℕ) → Tests
-frameTests n t bytes =
-    let d = recordAt n.domains (addressedBy bytes) in
-    (1, badReading n t)
+abbrev pub frame_tests : Node → VirtualLocalTime → (bytes : List ℕ) → Tests
+frame_tests n t bytes =
+    let d = record_at n.domains (addressed_by bytes) in
+    (1, bad_reading n t)
     ∷ (2, not (eqb (length bytes) 8))
-    ∷ (3, noType (type_of (get_or bytes 0 0)))
-    ∷ (4, notFor d (namedDomain bytes) Slave)
+    ∷ (3, no_type (type_of (get_or bytes 0 0)))
+    ∷ (4, not_for d (named_domain bytes) Slave)
     ∷ (5, not (is_taken d.settings.mode d.settings.ids bytes))
-    ∷ kindTests (values_of (type_of (get_or bytes 0 0)) bytes) d t
+    ∷ kind_tests (values_of (type_of (get_or bytes 0 0)) bytes) d t
 
 -- ---- A read: 1, 4, 10.
-abbrev pub readTests : Node → (domain : ℕ) → VirtualLocalTime → Tests
-readTests n domain t =
-    let d = recordAt n.domains (domain % places) in
-    (1, badReading n t)
-    ∷ (4, notFor d domain Either)
-    ∷ (10, neverSet d.base)
+abbrev pub read_tests : Node → (domain : ℕ) → VirtualLocalTime → Tests
+read_tests n domain t =
+    let d = record_at n.domains (domain % places) in
+    (1, bad_reading n t)
+    ∷ (4, not_for d domain Either)
+    ∷ (10, never_set d.base)
     ∷ []
 
 -- ---- A set: 1, 4, 9.
-abbrev pub setTests : Node → (domain : ℕ) → VirtualLocalTime → (nanoseconds : ℕ) → Tests
-setTests n domain t nanoseconds =
-    let d = recordAt n.domains (domain % places) in
-    (1, badReading n t)
-    ∷ (4, notFor d domain Master)
-    ∷ (9, not (isNanoseconds nanoseconds))
+abbrev pub set_tests : Node → (domain : ℕ) → VirtualLocalTime → (nanoseconds : ℕ) → Tests
+set_tests n domain t nanoseconds =
+    let d = record_at n.domains (domain % places) in
+    (1, bad_reading n t)
+    ∷ (4, not_for d domain Master)
+    ∷ (9, not (is_nanoseconds nanoseconds))
     ∷ []
 
 -- ---- A main cycle: 1, 12 "output buffer .. under 8 times S".
-abbrev pub cycleTests : Node → VirtualLocalTime → (out : List ℕ) → Tests
-cycleTests n t out =
-    (1, badReading n t)
-    ∷ (12, not (isRoomFor n (length out)))
+abbrev pub cycle_tests : Node → VirtualLocalTime → (out : List ℕ) → Tests
+cycle_tests n t out =
+    (1, bad_reading n t)
+    ∷ (12, not (is_room_for n (length out)))
     ∷ []
 
 -- ---- A confirmation: 1, 4, 11, 12 "output buffer under 8 bytes".
-abbrev pub confirmTests : Node → (domain : ℕ) → VirtualLocalTime → (counter : ℕ) (out : List ℕ) → Tests
-confirmTests n domain t counter out =
-    let d = recordAt n.domains (domain % places) in
-    (1, badReading n t)
-    ∷ (4, notFor d domain Master)
-    ∷ (11, noOpenSync d.settings.confirmation_time d.sending t counter)
+abbrev pub confirm_tests : Node → (domain : ℕ) → VirtualLocalTime → (counter : ℕ) (out : List ℕ) → Tests
+confirm_tests n domain t counter out =
+    let d = record_at n.domains (domain % places) in
+    (1, bad_reading n t)
+    ∷ (4, not_for d domain Master)
+    ∷ (11, no_open_sync d.settings.confirmation_time d.sending t counter)
     ∷ (12, not (leb 8 (length out)))
     ∷ []
 
 -- ---- A queue (paper 02, request 4): 12 "first, if the answer buffer is shorter than the number of readings; then 2 if
 -- that number is above 32 or the frame bytes aren't eight times it".
-abbrev pub queueTests : (readings frames answers : List ℕ) → Tests
-queueTests readings frames answers =
+abbrev pub queue_tests : (readings frames answers : List ℕ) → Tests
+queue_tests readings frames answers =
     (12, not (leb (length readings) (length answers)))
     ∷ (2, not (leb (length readings) 32))
     ∷ (2, not (eqb (length frames) (8 * length readings)))
     ∷ []
 
 -- ---- `new`: 14 "settings out of range".
-abbrev pub newTests : NodeSettings → Tests
-newTests s = (14, not (within 1 16 s.syncs_per_cycle && allGood s.domains)) ∷ []
+abbrev pub new_tests : NodeSettings → Tests
+new_tests s = (14, not (within 1 16 s.syncs_per_cycle && all_good s.domains)) ∷ []
 
 -- ---- The tests of any call.
-abbrev pub testsOf : Node → Call → Tests
-testsOf n (frame t bytes) = frameTests n t bytes
-testsOf n (read domain t) = readTests n domain t
-testsOf n (set domain t seconds nanoseconds) = setTests n domain t nanoseconds
-testsOf n (cycle t out) = cycleTests n t out
-testsOf n (confirm domain t counter out) = confirmTests n domain t counter out
+abbrev pub tests_of : Node → Call → Tests
+tests_of n (frame t bytes) = frame_tests n t bytes
+tests_of n (read domain t) = read_tests n domain t
+tests_of n (set domain t seconds nanoseconds) = set_tests n domain t nanoseconds
+tests_of n (cycle t out) = cycle_tests n t out
+tests_of n (confirm domain t counter out) = confirm_tests n domain t counter out

@@ -5,23 +5,23 @@ use Prim.Native.Nat.{ℕ}
 use mathlib.Core.Path.{◌≡◌, sym, ap, ◌∙◌}
 use mathlib.Core.List.{List}
 use Rattle.promise.specs.Only.{OnlyOne}
-use Rattle.promise.proofs.Laws.{equation-only}
+use Rattle.promise.proofs.Laws.{equation_only}
 use Rattle.node.specs.declared.Node.{Node}
 use Rattle.node_queue.specs.declared.QueueAnswer.{QueueAnswer}
 use Rattle.node_queue.specs.declared.NodeQueue.{NodeQueue}
-use Rattle.node_queue.specs.Queue.{queueAnswer, queueNumber, queueNode, queueBytes, QueuedIn}
+use Rattle.node_queue.specs.Queue.{queue_answer, queue_number, queue_node, queue_bytes, QueuedIn}
 
-pub on-queue-only :
+pub on_queue_only :
     (n : Node) (ts fs before : List ℕ) →
     OnlyOne (λ (r : NodeQueue × List ℕ). QueuedIn n ts fs before r.0 r.1)
-on-queue-only n ts fs before x y p q =
+on_queue_only n ts fs before x y p q =
     let answer = p.answer ∙ sym q.answer in
-    let node = p.node ∙ ap (λ a. queueNode a n ts fs) answer ∙ sym q.node in
-    let bytes = p.bytes ∙ ap (λ a. queueBytes a n ts fs before) answer ∙ sym q.bytes in
+    let node = p.node ∙ ap (λ a. queue_node a n ts fs) answer ∙ sym q.node in
+    let bytes = p.bytes ∙ ap (λ a. queue_bytes a n ts fs before) answer ∙ sym q.bytes in
     λ i. (record { answer = answer i; node = node i }, bytes i)
 
-pub number-only : (answer : QueueAnswer) → OnlyOne (λ (r : ℕ). r ≡ queueNumber answer)
-number-only answer = equation-only _
+pub number_only : (answer : QueueAnswer) → OnlyOne (λ (r : ℕ). r ≡ queue_number answer)
+number_only answer = equation_only _
 
-pub judge-only : (readings bytes room : ℕ) → OnlyOne (λ (r : QueueAnswer). r ≡ queueAnswer readings bytes room)
-judge-only readings bytes room = equation-only _
+pub judge_only : (readings bytes room : ℕ) → OnlyOne (λ (r : QueueAnswer). r ≡ queue_answer readings bytes room)
+judge_only readings bytes room = equation_only _

@@ -12,40 +12,40 @@ use native.Mathlib.Omega.{arith}
 use lib.ListN.{length, set, take, drop, take-append-drop}
 use lib.Seq.{append_snoc, drop-cons, drop-drop, drop-length, drop-set-lt, take-suc-set}
 use Rattle.node.specs.declared.Node.{Node}
-use Rattle.node_call.specs.Calls.{Call, nodeAfter, answerTo, number_in, answersTo, nodeAfterAll}
-use Rattle.node_queue.specs.Queue.{queueCalls, call_at, queueNumbers, queueAnswer, queueNode, queueBytes, QueuedIn}
+use Rattle.node_call.specs.Calls.{Call, node_after, answer_to, number_in, answers_to, node_after_all}
+use Rattle.node_queue.specs.Queue.{queue_calls, call_at, queue_numbers, queue_answer, queue_node, queue_bytes, QueuedIn}
 use Rattle.node_queue.specs.declared.QueueAnswer.TheVariants.{Taken}
 
 pub record Rest
     (whole : Node) (filled : List ℕ) (ts fs : List ℕ) (i : ℕ) (n : Node) (out : List ℕ) : Type 0 where
-  pub node : nodeAfterAll n (queueCalls (drop i ts) (drop (8 * i) fs)) ≡ whole
-  pub bytes : take i out ++ queueNumbers n (drop i ts) (drop (8 * i) fs) ++ drop (length ts) out ≡ filled
+  pub node : node_after_all n (queue_calls (drop i ts) (drop (8 * i) fs)) ≡ whole
+  pub bytes : take i out ++ queue_numbers n (drop i ts) (drop (8 * i) fs) ++ drop (length ts) out ≡ filled
 
 -- ---- the frame call at a place, and the calls behind it
 
-pub calls-left :
+pub calls_left :
     (ts fs : List ℕ) (i : ℕ) → i < length ts →
-    queueCalls (drop i ts) (drop (8 * i) fs)
-    ≡ call_at ts fs i ∷ queueCalls (drop (i + 1) ts) (drop (8 * (i + 1)) fs)
-calls-left ts fs i h =
+    queue_calls (drop i ts) (drop (8 * i) fs)
+    ≡ call_at ts fs i ∷ queue_calls (drop (i + 1) ts) (drop (8 * (i + 1)) fs)
+calls_left ts fs i h =
     let next : 8 * i + 8 ≡ 8 * (i + 1) = omega arith in
-    ap (λ (l : List ℕ). queueCalls l (drop (8 * i) fs)) (drop-cons ts i 0 h)
-    ∙ ap (λ (k : ℕ). call_at ts fs i ∷ queueCalls (drop k ts) (drop 8 (drop (8 * i) fs))) (sym (add-one i))
-    ∙ ap (λ (l : List ℕ). call_at ts fs i ∷ queueCalls (drop (i + 1) ts) l)
+    ap (λ (l : List ℕ). queue_calls l (drop (8 * i) fs)) (drop-cons ts i 0 h)
+    ∙ ap (λ (k : ℕ). call_at ts fs i ∷ queue_calls (drop k ts) (drop 8 (drop (8 * i) fs))) (sym (add-one i))
+    ∙ ap (λ (l : List ℕ). call_at ts fs i ∷ queue_calls (drop (i + 1) ts) l)
     (drop-drop 8 (8 * i) fs ∙ ap (λ (k : ℕ). drop k fs) next)
 
 -- ---- what is left decides
 
 module _ (whole : Node) (filled ts fs : List ℕ) (i : ℕ) (n : Node) (out : List ℕ) (n' : Node) (b : ℕ)
-    (h : i < length ts) (room : i < length out) (en : n' ≡ nodeAfter n (call_at ts fs i))
-    (eb : b ≡ number_in (answerTo n (call_at ts fs i))) where
+    (h : i < length ts) (room : i < length out) (en : n' ≡ node_after n (call_at ts fs i))
+    (eb : b ≡ number_in (answer_to n (call_at ts fs i))) where
   abbrev behind : List Call
-  behind = queueCalls (drop (i + 1) ts) (drop (8 * (i + 1)) fs)
+  behind = queue_calls (drop (i + 1) ts) (drop (8 * (i + 1)) fs)
 
-  numbers : b ∷ map number_in (answersTo n' behind) ≡ queueNumbers n (drop i ts) (drop (8 * i) fs)
+  numbers : b ∷ map number_in (answers_to n' behind) ≡ queue_numbers n (drop i ts) (drop (8 * i) fs)
   numbers =
-      (λ k. eb k ∷ map number_in (answersTo (en k) behind))
-      ∙ sym (ap (λ (cs : List Call). map number_in (answersTo n cs)) (calls-left ts fs i h))
+      (λ k. eb k ∷ map number_in (answers_to (en k) behind))
+      ∙ sym (ap (λ (cs : List Call). map number_in (answers_to n cs)) (calls_left ts fs i h))
 
   written : take (i + 1) (set out i b) ≡ take i out ++ (b ∷ [])
   written = ap (λ (k : ℕ). take k (set out i b)) (add-one i) ∙ take-suc-set out i b room
@@ -54,28 +54,28 @@ module _ (whole : Node) (filled ts fs : List ℕ) (i : ℕ) (n : Node) (out : Li
   onward r =
       record {
         node =
-            ap (λ (m : Node). nodeAfterAll m behind) en ∙ sym (ap (nodeAfterAll n) (calls-left ts fs i h)) ∙ r.node;
+            ap (λ (m : Node). node_after_all m behind) en ∙ sym (ap (node_after_all n) (calls_left ts fs i h)) ∙ r.node;
         bytes =
-            (λ k. written k ++ map number_in (answersTo n' behind) ++ drop-set-lt (length ts) out i b h k)
+            (λ k. written k ++ map number_in (answers_to n' behind) ++ drop-set-lt (length ts) out i b h k)
             ∙ ap (λ (l : List ℕ). l ++ drop (length ts) out)
-            (append_snoc (take i out) b (map number_in (answersTo n' behind))
+            (append_snoc (take i out) b (map number_in (answers_to n' behind))
             ∙ ap (λ (l : List ℕ). take i out ++ l) numbers)
             ∙ r.bytes;
       }
 
-pub at-end :
+pub at_end :
     (n₀ : Node) (ts fs before : List ℕ) (i : ℕ) (n : Node) (out : List ℕ) → i ≡ length ts →
-    Taken ≡ queueAnswer (length ts) (length fs) (length before) →
-    Rest (queueNode Taken n₀ ts fs) (queueBytes Taken n₀ ts fs before) ts fs i n out →
+    Taken ≡ queue_answer (length ts) (length fs) (length before) →
+    Rest (queue_node Taken n₀ ts fs) (queue_bytes Taken n₀ ts fs before) ts fs i n out →
     QueuedIn n₀ ts fs before (record { answer = Taken; node = n }) out
-at-end n₀ ts fs before i n out e taken r =
+at_end n₀ ts fs before i n out e taken r =
     let none = ap (λ (k : ℕ). drop k ts) e ∙ drop-length ts in
     record {
       answer = taken;
-      node = sym (ap (λ (l : List ℕ). nodeAfterAll n (queueCalls l (drop (8 * i) fs))) none) ∙ r.node;
+      node = sym (ap (λ (l : List ℕ). node_after_all n (queue_calls l (drop (8 * i) fs))) none) ∙ r.node;
       bytes =
           sym (take-append-drop i out) ∙ ap (λ (l : List ℕ). l ++ drop i out) (sym (append-nil (take i out)))
           ∙ ap (λ (k : ℕ). take i out ++ [] ++ drop k out) e
-          ∙ sym (ap (λ (l : List ℕ). take i out ++ queueNumbers n l (drop (8 * i) fs) ++ drop (length ts) out) none)
+          ∙ sym (ap (λ (l : List ℕ). take i out ++ queue_numbers n l (drop (8 * i) fs) ++ drop (length ts) out) none)
           ∙ r.bytes;
     }

@@ -2,7 +2,7 @@
 // in a lent buffer. The frames are taken as `on_frame` takes them, one after another on the one node: no frame costs a
 // copy of it.
 ghost use Rattle.std.specs.Prelude.{◌≡◌};
-ghost use Rattle.node_queue.specs.Queue.{queueAnswer, queueNumber, QueuedIn};
+ghost use Rattle.node_queue.specs.Queue.{queue_answer, queue_number, QueuedIn};
 
 use call_frame::frame_call;
 use clock::VirtualLocalTime;
@@ -23,7 +23,7 @@ pub enum QueueAnswer {
 impl QueueAnswer {
     // The paper's number.
     pub fn number(self) -> u8
-        ensures { result ≡ queueNumber self }
+        ensures { result ≡ queue_number self }
     {
         match self {
             QueueAnswer::Taken => 0,
@@ -76,7 +76,7 @@ pub fn on_queue(mut node: Node, readings: &[u64], frames: &[u8], answers: &mut [
 
 // By how many readings there are, how many bytes of frames, and how much room for the numbers.
 pub fn judge(readings: usize, bytes: usize, room: usize) -> QueueAnswer
-    ensures { result ≡ queueAnswer readings bytes room }
+    ensures { result ≡ queue_answer readings bytes room }
 {
     if room < readings {
         return QueueAnswer::Refused(Refusal::NoRoom);

@@ -5,22 +5,22 @@ use Prim.Native.Nat.{ℕ, ◌%◌}
 use mathlib.Core.Path.{◌≡◌}
 use mathlib.Core.List.{List}
 use Rattle.promise.specs.Only.{OnlyOne}
-use Rattle.promise.proofs.Laws.{equation-only}
+use Rattle.promise.proofs.Laws.{equation_only}
 use Rattle.settings.specs.Node.{places}
 use Rattle.domain.specs.declared.Domain.{Domain}
-use Rattle.node_words.specs.Words.{recordOf, framePut, basePut, sentPut}
+use Rattle.node_words.specs.Words.{record_of, frame_put, base_put, sent_put}
 
-pub record-in-only : (words : List ℕ) (domain : ℕ) → OnlyOne (λ (r : Domain). r ≡ recordOf words (domain % places))
-record-in-only words domain = equation-only _
+pub record_in_only : (words : List ℕ) (domain : ℕ) → OnlyOne (λ (r : Domain). r ≡ record_of words (domain % places))
+record_in_only words domain = equation_only _
 
-pub put-frame-only :
-    (words : List ℕ) (at : ℕ) (d : Domain) → OnlyOne (λ (r : List ℕ). r ≡ framePut words (at % places) d)
-put-frame-only words at d = equation-only _
+pub put_frame_only :
+    (words : List ℕ) (at : ℕ) (d : Domain) → OnlyOne (λ (r : List ℕ). r ≡ frame_put words (at % places) d)
+put_frame_only words at d = equation_only _
 
-pub put-base-only :
-    (words : List ℕ) (at : ℕ) (d : Domain) → OnlyOne (λ (r : List ℕ). r ≡ basePut words (at % places) d)
-put-base-only words at d = equation-only _
+pub put_base_only :
+    (words : List ℕ) (at : ℕ) (d : Domain) → OnlyOne (λ (r : List ℕ). r ≡ base_put words (at % places) d)
+put_base_only words at d = equation_only _
 
-pub put-sent-only :
-    (words : List ℕ) (at : ℕ) (d : Domain) → OnlyOne (λ (r : List ℕ). r ≡ sentPut words (at % places) d)
-put-sent-only words at d = equation-only _
+pub put_sent_only :
+    (words : List ℕ) (at : ℕ) (d : Domain) → OnlyOne (λ (r : List ℕ). r ≡ sent_put words (at % places) d)
+put_sent_only words at d = equation_only _

@@ -1,7 +1,7 @@
 // A part of a record's state into the words: the part that a call changes, and no other word.
 ghost use Rattle.std.specs.Prelude.{◌+◌, ◌%◌, ◌<◌, ◌≡◌, ◌∷◌, [], length, take};
 ghost use Rattle.settings.specs.Node.{places};
-ghost use Rattle.node_words.specs.Words.{nodeSize, stateAt, framePut, basePut, sentPut, withPart};
+ghost use Rattle.node_words.specs.Words.{node_size, state_at, frame_put, base_put, sent_put, with_part};
 
 use crate::{HEAD_WORDS, NODE_WORDS, RECORD_WORDS};
 use domain::Domain;
@@ -10,14 +10,14 @@ use settings::NodeSettings;
 
 // What a slave's frame changes.
 pub fn put_frame(node: &mut [u64; NODE_WORDS], at: u8, domain: Domain)
-    ensures { node.new ≡ framePut node.old (at % places) domain }
+    ensures { node.new ≡ frame_put node.old (at % places) domain }
 {
     put_eight_at(node, state_of(at), state_words(domain));
 }
 
 // What a set changes.
 pub fn put_base(node: &mut [u64; NODE_WORDS], at: u8, domain: Domain)
-    ensures { node.new ≡ basePut node.old (at % places) domain }
+    ensures { node.new ≡ base_put node.old (at % places) domain }
 {
     let list = state_words(domain);
     put_three_at(node, state_of(at) + 4, list[4], list[5], list[6]);
@@ -25,7 +25,7 @@ pub fn put_base(node: &mut [u64; NODE_WORDS], at: u8, domain: Domain)
 
 // What a main cycle and a confirmation change.
 pub fn put_sent(node: &mut [u64; NODE_WORDS], at: u8, domain: Domain)
-    ensures { node.new ≡ sentPut node.old (at % places) domain }
+    ensures { node.new ≡ sent_put node.old (at % places) domain }
 {
     let list = state_words(domain);
     put_three_at(node, state_of(at) + 8, list[8], list[9], list[10]);
@@ -33,23 +33,23 @@ pub fn put_sent(node: &mut [u64; NODE_WORDS], at: u8, domain: Domain)
 
 // Where a record's state begins.
 fn state_of(at: u8) -> usize
-    ensures { result ≡ stateAt (at % places) }
+    ensures { result ≡ state_at (at % places) }
 {
     HEAD_WORDS + SETTINGS_WORDS + RECORD_WORDS * ((at as usize) % NodeSettings::DOMAINS)
 }
 
 fn put_eight_at(node: &mut [u64], from: usize, list: [u64; STATE_WORDS])
-    requires node_len { length node.old ≡ nodeSize }
+    requires node_len { length node.old ≡ node_size }
     requires from_bound { from < 344 }
-    ensures { node.new ≡ withPart from 8 node.old (take 8 list) }
+    ensures { node.new ≡ with_part from 8 node.old (take 8 list) }
 {
     put_eight(&mut node[from..from + 8], list);
 }
 
 fn put_three_at(node: &mut [u64], from: usize, a: u64, b: u64, c: u64)
-    requires node_len { length node.old ≡ nodeSize }
+    requires node_len { length node.old ≡ node_size }
     requires from_bound { from < 352 }
-    ensures { node.new ≡ withPart from 3 node.old (a ∷ b ∷ c ∷ []) }
+    ensures { node.new ≡ with_part from 3 node.old (a ∷ b ∷ c ∷ []) }
 {
     put_three(&mut node[from..from + 3], a, b, c);
 }

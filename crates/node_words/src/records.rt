@@ -1,7 +1,7 @@
 // A record out of the words.
 ghost use Rattle.std.specs.Prelude.{◌+◌, ◌*◌, ◌%◌, ◌<◌, ◌≡◌, length};
 ghost use Rattle.settings.specs.Node.{places};
-ghost use Rattle.node_words.specs.Words.{nodeSize, recordOf};
+ghost use Rattle.node_words.specs.Words.{node_size, record_of};
 
 use crate::{HEAD_WORDS, NODE_WORDS, RECORD_WORDS};
 use domain::Domain;
@@ -10,16 +10,16 @@ use settings::NodeSettings;
 
 // The record of a domain: the one at its number, modulo 16.
 pub fn record_in(node: &[u64; NODE_WORDS], domain: u8) -> Domain
-    ensures { result ≡ recordOf node.now (domain % places) }
+    ensures { result ≡ record_of node.now (domain % places) }
 {
     record_at(node, (domain as usize) % NodeSettings::DOMAINS)
 }
 
 // The record at a place.
 fn record_at(node: &[u64], at: usize) -> Domain
-    requires node_len { length node.now ≡ nodeSize }
+    requires node_len { length node.now ≡ node_size }
     requires at_lt_places { at < places }
-    ensures { result ≡ recordOf node.now at }
+    ensures { result ≡ record_of node.now at }
 {
     let from = HEAD_WORDS + RECORD_WORDS * at;
     let state = from + SETTINGS_WORDS;

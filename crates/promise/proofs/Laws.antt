@@ -4,5 +4,5 @@
 use mathlib.Core.Path.{◌≡◌, ◌∙◌, sym}
 use Rattle.promise.specs.Only.{OnlyOne}
 
-pub equation-only : {A : Type 0} (d : A) → OnlyOne (λ (r : A). r ≡ d)
-equation-only d x y p q = p ∙ sym q
+pub equation_only : {A : Type 0} (d : A) → OnlyOne (λ (r : A). r ≡ d)
+equation_only d x y p q = p ∙ sym q

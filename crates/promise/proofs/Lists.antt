@@ -13,7 +13,7 @@ get_d_any [] i d e h = absurd (omega (arith, h))
 get_d_any (x ∷ xs) zero d e h = refl
 get_d_any (x ∷ xs) (suc i) d e h = get_d_any xs i d e (omega (arith, h))
 
-pub take-replicate : (n m a : ℕ) → n ≤ m → take n (replicate m a) ≡ replicate n a
-take-replicate zero m a h = refl
-take-replicate (suc n) zero a h = absurd (omega arith)
-take-replicate (suc n) (suc m) a h = ap (λ (l : List ℕ). a ∷ l) (take-replicate n m a (omega arith))
+pub take_replicate : (n m a : ℕ) → n ≤ m → take n (replicate m a) ≡ replicate n a
+take_replicate zero m a h = refl
+take_replicate (suc n) zero a h = absurd (omega arith)
+take_replicate (suc n) (suc m) a h = ap (λ (l : List ℕ). a ∷ l) (take_replicate n m a (omega arith))

@@ -5,46 +5,46 @@ use Prim.Native.Nat.{ℕ}
 use mathlib.Core.Path.{◌≡◌}
 use mathlib.Core.List.{List}
 use Rattle.promise.specs.Only.{OnlyOne}
-use Rattle.promise.proofs.Laws.{equation-only}
+use Rattle.promise.proofs.Laws.{equation_only}
 use Rattle.clock.specs.declared.base.Held.{Held}
 use Rattle.settings.specs.declared.domain_settings.DomainSettings.{DomainSettings}
 use Rattle.settings.specs.declared.domain_settings.Role.{Role}
 use Rattle.domain.specs.declared.Domain.{Domain}
 use Rattle.domain.specs.declared.Sending.{Sending}
-use Rattle.record_words.specs.Packed.{packedOf}
-use Rattle.record_words.specs.Parts.{roleOf, held_of, sendingOf}
-use Rattle.record_words.specs.Record.{settingsOf, number_of, domainOf, settingsWords, stateWords}
+use Rattle.record_words.specs.Packed.{packed_of}
+use Rattle.record_words.specs.Parts.{role_of, held_of, sending_of}
+use Rattle.record_words.specs.Record.{settings_of, number_of, domain_of, settings_words, state_words}
 use Rattle.record_words.specs.Given.{given_of}
 
-pub packed-only : (low a b c d : ℕ) → OnlyOne (λ (r : ℕ). r ≡ packedOf low a b c d)
-packed-only low a b c d = equation-only _
+pub packed_only : (low a b c d : ℕ) → OnlyOne (λ (r : ℕ). r ≡ packed_of low a b c d)
+packed_only low a b c d = equation_only _
 
-pub role-of-only : (word : ℕ) → OnlyOne (λ (r : Role). r ≡ roleOf word)
-role-of-only word = equation-only _
+pub role_of_only : (word : ℕ) → OnlyOne (λ (r : Role). r ≡ role_of word)
+role_of_only word = equation_only _
 
-pub held-of-only : (seconds at word : ℕ) → OnlyOne (λ (r : Held). r ≡ held_of seconds at word)
-held-of-only seconds at word = equation-only _
+pub held_of_only : (seconds at word : ℕ) → OnlyOne (λ (r : Held). r ≡ held_of seconds at word)
+held_of_only seconds at word = equation_only _
 
-pub sending-of-only : (at word nanoseconds : ℕ) → OnlyOne (λ (r : Sending). r ≡ sendingOf at word nanoseconds)
-sending-of-only at word nanoseconds = equation-only _
+pub sending_of_only : (at word nanoseconds : ℕ) → OnlyOne (λ (r : Sending). r ≡ sending_of at word nanoseconds)
+sending_of_only at word nanoseconds = equation_only _
 
-pub settings-of-only : (words : List ℕ) → OnlyOne (λ (r : DomainSettings). r ≡ settingsOf words)
-settings-of-only words = equation-only _
+pub settings_of_only : (words : List ℕ) → OnlyOne (λ (r : DomainSettings). r ≡ settings_of words)
+settings_of_only words = equation_only _
 
-pub number-of-only : (words : List ℕ) → OnlyOne (λ (r : ℕ). r ≡ number_of words)
-number-of-only words = equation-only _
+pub number_of_only : (words : List ℕ) → OnlyOne (λ (r : ℕ). r ≡ number_of words)
+number_of_only words = equation_only _
 
-pub domain-of-only :
+pub domain_of_only :
     (settings : DomainSettings) (number : ℕ) (words : List ℕ) →
-    OnlyOne (λ (r : Domain). r ≡ domainOf settings number words)
-domain-of-only settings number words = equation-only _
+    OnlyOne (λ (r : Domain). r ≡ domain_of settings number words)
+domain_of_only settings number words = equation_only _
 
-pub settings-words-only :
-    (settings : DomainSettings) (number : ℕ) → OnlyOne (λ (r : List ℕ). r ≡ settingsWords settings number)
-settings-words-only settings number = equation-only _
+pub settings_words_only :
+    (settings : DomainSettings) (number : ℕ) → OnlyOne (λ (r : List ℕ). r ≡ settings_words settings number)
+settings_words_only settings number = equation_only _
 
-pub state-words-only : (domain : Domain) → OnlyOne (λ (r : List ℕ). r ≡ stateWords domain)
-state-words-only domain = equation-only _
+pub state_words_only : (domain : Domain) → OnlyOne (λ (r : List ℕ). r ≡ state_words domain)
+state_words_only domain = equation_only _
 
-pub given-of-only : (words : List ℕ) → OnlyOne (λ (r : DomainSettings). r ≡ given_of words)
-given-of-only words = equation-only _
+pub given_of_only : (words : List ℕ) → OnlyOne (λ (r : DomainSettings). r ≡ given_of words)
+given_of_only words = equation_only _

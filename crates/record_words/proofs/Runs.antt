@@ -18,5 +18,5 @@ run_is (suc k) l at h =
     ∙ ap (take (suc k)) (sym (drop-cons l at 0 (omega arith)))
 
 -- ---- all elements of a list of k
-pub run-all : (k : ℕ) (l : List ℕ) → length l ≡ k → run k l 0 ≡ l
-run-all k l e = run_is k l 0 (omega arith) ∙ take_all k l (omega arith)
+pub run_all : (k : ℕ) (l : List ℕ) → length l ≡ k → run k l 0 ≡ l
+run_all k l e = run_is k l 0 (omega arith) ∙ take_all k l (omega arith)

@@ -24,8 +24,8 @@ byte6 word = word / 281474976710656 % 256
 abbrev pub byte7 : ℕ → ℕ
 byte7 word = word / 72057594037927936 % 256
 
-abbrev pub packedOf : (low a b c d : ℕ) → ℕ
-packedOf low a b c d =
+abbrev pub packed_of : (low a b c d : ℕ) → ℕ
+packed_of low a b c d =
     low + a * 4294967296 + b * 1099511627776 + c * 281474976710656 + d * 72057594037927936
 
 abbrev pub half_of : (a b c d : ℕ) → ℕ
@@ -34,12 +34,12 @@ half_of a b c d = a + b * 256 + c * 65536 + d * 16777216
 -- ---- Eight bytes of a list as a word.
 abbrev pub word_of : (at : ℕ) → List ℕ → ℕ
 word_of at l =
-    packedOf (half_of (get_or l at 0) (get_or l (at + 1) 0) (get_or l (at + 2) 0) (get_or l (at + 3) 0)) (get_or l (at + 4) 0)
+    packed_of (half_of (get_or l at 0) (get_or l (at + 1) 0) (get_or l (at + 2) 0) (get_or l (at + 3) 0)) (get_or l (at + 4) 0)
     (get_or l (at + 5) 0) (get_or l (at + 6) 0) (get_or l (at + 7) 0)
 
 -- ---- Eight bytes of a word, and sixteen of two.
-abbrev pub eightOf : ℕ → List ℕ → List ℕ
-eightOf word rest =
+abbrev pub eight_of : ℕ → List ℕ → List ℕ
+eight_of word rest =
     byte0 word
     ∷ byte1 word
     ∷ word / 65536 % 256
@@ -50,5 +50,5 @@ eightOf word rest =
     ∷ byte7 word
     ∷ rest
 
-abbrev pub sixteenOf : (one two : ℕ) → List ℕ
-sixteenOf one two = eightOf one (eightOf two [])
+abbrev pub sixteen_of : (one two : ℕ) → List ℕ
+sixteen_of one two = eight_of one (eight_of two [])

@@ -21,45 +21,45 @@ use Rattle.record_words.specs.declared.parts.LeapWords.{LeapWords}
 use Rattle.record_words.specs.declared.parts.HeldWords.{HeldWords}
 use Rattle.record_words.specs.declared.parts.AtWord.{AtWord}
 use Rattle.record_words.specs.declared.parts.SendingWords.{SendingWords}
-use Rattle.record_words.specs.Packed.{low_of, byte4, byte5, byte6, byte7, packedOf}
+use Rattle.record_words.specs.Packed.{low_of, byte4, byte5, byte6, byte7, packed_of}
 
-abbrev pub roleOf : ℕ → Role
-roleOf word = cond (eqb (byte4 word) 1) Slave (cond (eqb (byte4 word) 2) Master Absent)
+abbrev pub role_of : ℕ → Role
+role_of word = cond (eqb (byte4 word) 1) Slave (cond (eqb (byte4 word) 2) Master Absent)
 
-abbrev pub roleCode : Role → ℕ
-roleCode Absent = 0
-roleCode Slave = 1
-roleCode Master = 2
+abbrev pub role_code : Role → ℕ
+role_code Absent = 0
+role_code Slave = 1
+role_code Master = 2
 
 abbrev pub mode_of : ℕ → CheckMode
 mode_of word =
     cond (eqb (byte5 word) 1) NotValidated
     (cond (eqb (byte5 word) 2) Ignored (cond (eqb (byte5 word) 3) Optional Validated))
 
-abbrev pub modeCode : CheckMode → ℕ
-modeCode Validated = 0
-modeCode NotValidated = 1
-modeCode Ignored = 2
-modeCode Optional = 3
+abbrev pub mode_code : CheckMode → ℕ
+mode_code Validated = 0
+mode_code NotValidated = 1
+mode_code Ignored = 2
+mode_code Optional = 3
 
-abbrev pub securityOf : ℕ → Security
-securityOf word = cond (eqb (byte7 word) 1) Secured Plain
+abbrev pub security_of : ℕ → Security
+security_of word = cond (eqb (byte7 word) 1) Secured Plain
 
-abbrev pub securityCode : Security → ℕ
-securityCode Plain = 0
-securityCode Secured = 1
+abbrev pub security_code : Security → ℕ
+security_code Plain = 0
+security_code Secured = 1
 
 abbrev pub flag_code : Bool → ℕ
 flag_code flag = cond flag 1 0
 
-abbrev pub leapOf : ℕ → Leap
-leapOf word =
+abbrev pub leap_of : ℕ → Leap
+leap_of word =
     cond (eqb (byte6 word) 1) (Future (byte7 word)) (cond (eqb (byte6 word) 2) (Past (byte7 word)) None)
 
-abbrev pub leapWords : Leap → LeapWords
-leapWords None = record { code = 0; run = 0 }
-leapWords (Future run) = record { code = 1; run = run }
-leapWords (Past run) = record { code = 2; run = run }
+abbrev pub leap_words : Leap → LeapWords
+leap_words None = record { code = 0; run = 0 }
+leap_words (Future run) = record { code = 1; run = run }
+leap_words (Past run) = record { code = 2; run = run }
 
 abbrev pub held_of : (seconds at word : ℕ) → Held
 held_of seconds at word =
@@ -67,13 +67,13 @@ held_of seconds at word =
     (Set (record { time = record { 0 = seconds; 1 = low_of word }; at = record { 0 = at } }))
     Unset
 
-abbrev pub heldWords : Held → HeldWords
-heldWords Unset = record { seconds = 0; at = 0; nanoseconds = 0; code = 0 }
-heldWords (Set base) =
+abbrev pub held_words : Held → HeldWords
+held_words Unset = record { seconds = 0; at = 0; nanoseconds = 0; code = 0 }
+held_words (Set base) =
     record { seconds = base.time.0; at = base.at.0; nanoseconds = base.time.1; code = 1 }
 
-abbrev pub pairingOf : (at word : ℕ) → Pairing
-pairingOf at word =
+abbrev pub pairing_of : (at word : ℕ) → Pairing
+pairing_of at word =
     cond (eqb (byte7 word) 1)
     (Open
     (record {
@@ -85,25 +85,25 @@ pairingOf at word =
     }))
     Waiting
 
-abbrev pub pairingWords : Pairing → AtWord
-pairingWords Waiting = record { at = 0; word = 0 }
-pairingWords (Open p) =
-    record { at = p.at.0; word = packedOf p.seconds p.counter p.user0 p.user1 1 }
+abbrev pub pairing_words : Pairing → AtWord
+pairing_words Waiting = record { at = 0; word = 0 }
+pairing_words (Open p) =
+    record { at = p.at.0; word = packed_of p.seconds p.counter p.user0 p.user1 1 }
 
 abbrev pub last_of : (at word : ℕ) → LastSync
 last_of at word = cond (eqb (byte6 word) 1) (Seen (byte4 word) (byte5 word) (record { 0 = at })) Unknown
 
-abbrev pub lastWords : LastSync → AtWord
-lastWords Unknown = record { at = 0; word = 0 }
-lastWords (Seen counter row at) = record { at = at.0; word = packedOf 0 counter row 1 0 }
+abbrev pub last_words : LastSync → AtWord
+last_words Unknown = record { at = 0; word = 0 }
+last_words (Seen counter row at) = record { at = at.0; word = packed_of 0 counter row 1 0 }
 
-abbrev pub sendingOf : (at word nanoseconds : ℕ) → Sending
-sendingOf at word nanoseconds =
+abbrev pub sending_of : (at word nanoseconds : ℕ) → Sending
+sending_of at word nanoseconds =
     cond (eqb (byte5 word) 1) (sent (byte4 word) (low_of word) (low_of nanoseconds) (record { 0 = at }))
     (cond (eqb (byte5 word) 2) (Confirmed (record { 0 = at })) Never)
 
-abbrev pub sendingWords : Sending → SendingWords
-sendingWords Never = record { at = 0; seconds = 0; nanoseconds = 0; counter = 0; code = 0 }
-sendingWords (sent counter seconds nanoseconds at) =
+abbrev pub sending_words : Sending → SendingWords
+sending_words Never = record { at = 0; seconds = 0; nanoseconds = 0; counter = 0; code = 0 }
+sending_words (sent counter seconds nanoseconds at) =
     record { at = at.0; seconds = seconds; nanoseconds = nanoseconds; counter = counter; code = 1 }
-sendingWords (Confirmed at) = record { at = at.0; seconds = 0; nanoseconds = 0; counter = 0; code = 2 }
+sending_words (Confirmed at) = record { at = at.0; seconds = 0; nanoseconds = 0; counter = 0; code = 2 }

@@ -1,7 +1,7 @@
 // Settings that a product gives in words, as `settings_of` reads them; where a code that is read is none, they are ones
 // that no node takes.
 ghost use Rattle.std.specs.Prelude.{◌≡◌};
-ghost use Rattle.record_words.specs.Given.{isCoded, noSettings, given_of};
+ghost use Rattle.record_words.specs.Given.{is_coded, no_settings, given_of};
 
 use crate::SETTINGS_WORDS;
 use crate::record::settings_of;
@@ -21,7 +21,7 @@ pub fn given_of(words: [u64; SETTINGS_WORDS]) -> DomainSettings
 
 // Whether the role's code is one, and the code that the role has read: a slave's mode, a master's security.
 fn is_coded(kinds: u64, sent: u64) -> bool
-    ensures { result ≡ isCoded kinds sent }
+    ensures { result ≡ is_coded kinds sent }
 {
     match kinds / 4_294_967_296 % 256 {
         0 => true,
@@ -33,7 +33,7 @@ fn is_coded(kinds: u64, sent: u64) -> bool
 
 // Out of range: a slave with J 0.
 fn no_settings() -> DomainSettings
-    ensures { result ≡ noSettings }
+    ensures { result ≡ no_settings }
 {
     DomainSettings {
         follow_up_time: 0,

@@ -1,9 +1,9 @@
 // A word of a half and four bytes.
 ghost use Rattle.std.specs.Prelude.{◌≡◌};
-ghost use Rattle.record_words.specs.Packed.{packedOf, half_of, word_of, sixteenOf};
+ghost use Rattle.record_words.specs.Packed.{packed_of, half_of, word_of, sixteen_of};
 
 pub fn packed(low: u32, a: u8, b: u8, c: u8, d: u8) -> u64
-    ensures { result ≡ packedOf low a b c d }
+    ensures { result ≡ packed_of low a b c d }
 {
     (low as u64)
         + (a as u64) * 4_294_967_296
@@ -46,7 +46,7 @@ pub fn last_word(bytes: [u8; 16]) -> u64
 
 // Sixteen bytes of two words.
 pub fn sixteen_of(one: u64, two: u64) -> [u8; 16]
-    ensures { result ≡ sixteenOf one two }
+    ensures { result ≡ sixteen_of one two }
 {
     [
         (one % 256) as u8,

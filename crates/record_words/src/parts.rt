@@ -2,23 +2,23 @@
 // no case has says the first case.
 ghost use Rattle.std.specs.Prelude.{◌≡◌};
 ghost use Rattle.record_words.specs.Parts.{
-  roleOf,
-  roleCode,
+  role_of,
+  role_code,
   mode_of,
-  modeCode,
-  securityOf,
-  securityCode,
-  leapOf,
-  leapWords,
+  mode_code,
+  security_of,
+  security_code,
+  leap_of,
+  leap_words,
   flag_code,
   held_of,
-  heldWords,
-  pairingOf,
-  pairingWords,
+  held_words,
+  pairing_of,
+  pairing_words,
   last_of,
-  lastWords,
-  sendingOf,
-  sendingWords,
+  last_words,
+  sending_of,
+  sending_words,
 };
 
 use crate::pack::packed;
@@ -28,7 +28,7 @@ use frame_check::CheckMode;
 use settings::{Role, Security};
 
 pub fn role_of(word: u64) -> Role
-    ensures { result ≡ roleOf word }
+    ensures { result ≡ role_of word }
 {
     match word / 4_294_967_296 % 256 {
         1 => Role::Slave,
@@ -38,7 +38,7 @@ pub fn role_of(word: u64) -> Role
 }
 
 pub fn role_code(role: Role) -> u8
-    ensures { result ≡ roleCode role }
+    ensures { result ≡ role_code role }
 {
     match role {
         Role::Absent => 0,
@@ -59,7 +59,7 @@ pub fn mode_of(word: u64) -> CheckMode
 }
 
 pub fn mode_code(mode: CheckMode) -> u8
-    ensures { result ≡ modeCode mode }
+    ensures { result ≡ mode_code mode }
 {
     match mode {
         CheckMode::Validated => 0,
@@ -70,7 +70,7 @@ pub fn mode_code(mode: CheckMode) -> u8
 }
 
 pub fn security_of(word: u64) -> Security
-    ensures { result ≡ securityOf word }
+    ensures { result ≡ security_of word }
 {
     match word / 72_057_594_037_927_936 % 256 {
         1 => Security::Secured,
@@ -79,7 +79,7 @@ pub fn security_of(word: u64) -> Security
 }
 
 pub fn security_code(security: Security) -> u8
-    ensures { result ≡ securityCode security }
+    ensures { result ≡ security_code security }
 {
     match security {
         Security::Plain => 0,
@@ -95,7 +95,7 @@ pub fn flag_code(flag: bool) -> u8
 
 // A leap: its code, and its run.
 pub fn leap_of(word: u64) -> Leap
-    ensures { result ≡ leapOf word }
+    ensures { result ≡ leap_of word }
 {
     match word / 281_474_976_710_656 % 256 {
         1 => Leap::Future((word / 72_057_594_037_927_936 % 256) as u8),
@@ -111,7 +111,7 @@ pub struct LeapWords {
 }
 
 pub fn leap_words(leap: Leap) -> LeapWords
-    ensures { result ≡ leapWords leap }
+    ensures { result ≡ leap_words leap }
 {
     match leap {
         Leap::None => LeapWords { code: 0, run: 0 },
@@ -142,7 +142,7 @@ pub struct HeldWords {
 }
 
 pub fn held_words(held: Held) -> HeldWords
-    ensures { result ≡ heldWords held }
+    ensures { result ≡ held_words held }
 {
     match held {
         Held::Unset => HeldWords {
@@ -166,7 +166,7 @@ pub fn held_words(held: Held) -> HeldWords
 
 // A pair: its reading, and a word with the rest.
 pub fn pairing_of(at: u64, word: u64) -> Pairing
-    ensures { result ≡ pairingOf at word }
+    ensures { result ≡ pairing_of at word }
 {
     match word / 72_057_594_037_927_936 % 256 {
         1 => Pairing::Open(Pair {
@@ -188,7 +188,7 @@ pub struct AtWord {
 }
 
 pub fn pairing_words(pairing: Pairing) -> AtWord
-    ensures { result ≡ pairingWords pairing }
+    ensures { result ≡ pairing_words pairing }
 {
     match pairing {
         Pairing::Waiting => AtWord { at: 0, word: 0 },
@@ -217,7 +217,7 @@ pub fn last_of(at: u64, word: u64) -> LastSync
 }
 
 pub fn last_words(last: LastSync) -> AtWord
-    ensures { result ≡ lastWords last }
+    ensures { result ≡ last_words last }
 {
     match last {
         LastSync::Unknown => AtWord { at: 0, word: 0 },
@@ -230,7 +230,7 @@ pub fn last_words(last: LastSync) -> AtWord
 
 // The SYNC sent last: its reading, a word with its seconds, counter and code, its nanoseconds.
 pub fn sending_of(at: u64, word: u64, nanoseconds: u64) -> Sending
-    ensures { result ≡ sendingOf at word nanoseconds }
+    ensures { result ≡ sending_of at word nanoseconds }
 {
     match word / 1_099_511_627_776 % 256 {
         1 => Sending::Open {
@@ -254,7 +254,7 @@ pub struct SendingWords {
 }
 
 pub fn sending_words(sending: Sending) -> SendingWords
-    ensures { result ≡ sendingWords sending }
+    ensures { result ≡ sending_words sending }
 {
     match sending {
         Sending::Never => SendingWords {

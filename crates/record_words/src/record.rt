@@ -1,13 +1,13 @@
 // A record in words: eleven with its settings and its number, eleven with its state.
 ghost use Rattle.std.specs.Prelude.{◌≡◌};
 ghost use Rattle.record_words.specs.Record.{
-  settingsOf,
+  settings_of,
   number_of,
-  domainOf,
-  settingsWords,
-  kindsOf,
-  sentOf,
-  stateWords,
+  domain_of,
+  settings_words,
+  kinds_of,
+  sent_of,
+  state_words,
 };
 
 use crate::pack::{first_word, half, last_word, packed, sixteen_of};
@@ -22,7 +22,7 @@ use frame::DataIds;
 use settings::{DomainSettings, UserBytes};
 
 pub fn settings_of(words: [u64; SETTINGS_WORDS]) -> DomainSettings
-    ensures { result ≡ settingsOf words }
+    ensures { result ≡ settings_of words }
 {
     let kinds = words[5];
     let sent = words[6];
@@ -61,7 +61,7 @@ pub fn number_of(words: [u64; SETTINGS_WORDS]) -> u8
 }
 
 pub fn domain_of(settings: DomainSettings, number: u8, words: [u64; STATE_WORDS]) -> Domain
-    ensures { result ≡ domainOf settings number words }
+    ensures { result ≡ domain_of settings number words }
 {
     let kinds = words[6];
     let stored = words[7];
@@ -92,7 +92,7 @@ pub fn domain_of(settings: DomainSettings, number: u8, words: [u64; STATE_WORDS]
 
 // Settings and a number in words.
 pub fn settings_words(settings: DomainSettings, number: u8) -> [u64; SETTINGS_WORDS]
-    ensures { result ≡ settingsWords settings number }
+    ensures { result ≡ settings_words settings number }
 {
     let ids = settings.ids;
     let sync = ids.sync;
@@ -113,7 +113,7 @@ pub fn settings_words(settings: DomainSettings, number: u8) -> [u64; SETTINGS_WO
 }
 
 fn kinds_word(settings: DomainSettings, number: u8) -> u64
-    ensures { result ≡ kindsOf settings number }
+    ensures { result ≡ kinds_of settings number }
 {
     let role = settings.role;
     let mode = settings.mode;
@@ -127,7 +127,7 @@ fn kinds_word(settings: DomainSettings, number: u8) -> u64
 }
 
 fn sent_word(settings: DomainSettings) -> u64
-    ensures { result ≡ sentOf settings }
+    ensures { result ≡ sent_of settings }
 {
     let user = settings.user;
     let security = settings.security;
@@ -142,7 +142,7 @@ fn sent_word(settings: DomainSettings) -> u64
 
 // Its state in words.
 pub fn state_words(domain: Domain) -> [u64; STATE_WORDS]
-    ensures { result ≡ stateWords domain }
+    ensures { result ≡ state_words domain }
 {
     let held = domain.base;
     let pairing = domain.pairing;

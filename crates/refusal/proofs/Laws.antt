@@ -22,18 +22,18 @@ use Rattle.refusal.specs.declared.Refusal.TheVariants.{
 }
 use Rattle.refusal.specs.Numbers.{number_of}
 
-pub thirteen-unused : (refusal : Refusal) → number_of refusal ≡ 13 → ⊥
-thirteen-unused Reading e = omega arith
-thirteen-unused Length e = omega arith
-thirteen-unused FrameType e = omega arith
-thirteen-unused Domain e = omega arith
-thirteen-unused Check e = omega arith
-thirteen-unused SyncCounter e = omega arith
-thirteen-unused NoOpenPair e = omega arith
-thirteen-unused FupCounter e = omega arith
-thirteen-unused Nanoseconds e = omega arith
-thirteen-unused NeverSet e = omega arith
-thirteen-unused NoOpenSync e = omega arith
-thirteen-unused NoRoom e = omega arith
-thirteen-unused Settings e = omega arith
-thirteen-unused RowIncomplete e = omega arith
+pub thirteen_unused : (refusal : Refusal) → number_of refusal ≡ 13 → ⊥
+thirteen_unused Reading e = omega arith
+thirteen_unused Length e = omega arith
+thirteen_unused FrameType e = omega arith
+thirteen_unused Domain e = omega arith
+thirteen_unused Check e = omega arith
+thirteen_unused SyncCounter e = omega arith
+thirteen_unused NoOpenPair e = omega arith
+thirteen_unused FupCounter e = omega arith
+thirteen_unused Nanoseconds e = omega arith
+thirteen_unused NeverSet e = omega arith
+thirteen_unused NoOpenSync e = omega arith
+thirteen_unused NoRoom e = omega arith
+thirteen_unused Settings e = omega arith
+thirteen_unused RowIncomplete e = omega arith

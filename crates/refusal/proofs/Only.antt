@@ -4,9 +4,9 @@
 use Prim.Native.Nat.{ℕ}
 use mathlib.Core.Path.{◌≡◌}
 use Rattle.promise.specs.Only.{OnlyOne}
-use Rattle.promise.proofs.Laws.{equation-only}
+use Rattle.promise.proofs.Laws.{equation_only}
 use Rattle.refusal.specs.declared.Refusal.{Refusal}
 use Rattle.refusal.specs.Numbers.{number_of}
 
-pub number-only : (refusal : Refusal) → OnlyOne (λ (r : ℕ). r ≡ number_of refusal)
-number-only refusal = equation-only _
+pub number_only : (refusal : Refusal) → OnlyOne (λ (r : ℕ). r ≡ number_of refusal)
+number_only refusal = equation_only _

@@ -10,8 +10,8 @@ use Rattle.domain.specs.declared.Domain.{Domain}
 use Rattle.round.specs.declared.Round.{Round}
 use Rattle.round.specs.Round.{RoundIn}
 
-pub go-round-only :
+pub go_round_only :
     (ds : List Domain) (first : ℕ) (t : VirtualLocalTime) (most : ℕ) (before : List ℕ) →
     OnlyOne (λ (r : Round × List ℕ). RoundIn ds first t most before r.0 r.1)
-go-round-only ds first t most before x y p q =
+go_round_only ds first t most before x y p q =
     λ i. ((p.round ∙ sym q.round) i, (p.bytes ∙ sym q.bytes) i)

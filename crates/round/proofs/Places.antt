@@ -1,7 +1,7 @@
 -- Laws of some places, for any test of a place. No contract cites this file.
 --   each-by, each-with, each-due, each_take   what holds of each place gives what follows, of fewer places too
 --   apart-due, apart-take                     fewer of places that are apart are apart
---   due-true     what `dueAmong` leaves is due
+--   due-true     what `due_among` leaves is due
 --   due-sum      how many it leaves
 --   due-lacks    it leaves out no place that is due
 --   first-full   the first k of them leave out one that is there only where they are k
@@ -21,7 +21,7 @@ use lib.ListN.{length, take, length-append}
 use lib.Seq.{length-take-le, take_all}
 use borrow.Author.Tests.{leb-true, leb-false, eqb-true, eqb-false}
 use Rattle.promise.proofs.Tests.{either}
-use Rattle.round.specs.FirstDue.{dueAmong, Each, NotIn, AllApart}
+use Rattle.round.specs.FirstDue.{due_among, Each, NotIn, AllApart}
 
 -- ---- a count f over some places
 abbrev pub sum_of : (f : ℕ → ℕ) → List ℕ → ℕ
@@ -31,19 +31,19 @@ sum_of f (p ∷ ps) = f p + sum_of f ps
 -- ---- what holds of each place
 
 module _ {P Q : ℕ → Type 0} (f : (p : ℕ) → P p → Q p) where
-  pub each-by : (ps : List ℕ) → Each P ps → Each Q ps
-  each-by [] h = tt
-  each-by (p ∷ ps) h = (f p h.0, each-by ps h.1)
+  pub each_by : (ps : List ℕ) → Each P ps → Each Q ps
+  each_by [] h = tt
+  each_by (p ∷ ps) h = (f p h.0, each_by ps h.1)
 
 module _ {P Q R : ℕ → Type 0} (f : (p : ℕ) → P p → Q p → R p) where
-  pub each-with : (ps : List ℕ) → Each P ps → Each Q ps → Each R ps
-  each-with [] g h = tt
-  each-with (p ∷ ps) g h = (f p g.0 h.0, each-with ps g.1 h.1)
+  pub each_with : (ps : List ℕ) → Each P ps → Each Q ps → Each R ps
+  each_with [] g h = tt
+  each_with (p ∷ ps) g h = (f p g.0 h.0, each_with ps g.1 h.1)
 
 module _ (P : ℕ → Type 0) where
-  pub each-due : (due : ℕ → Bool) (ps : List ℕ) → Each P ps → Each P (dueAmong due ps)
-  each-due due [] h = tt
-  each-due due (p ∷ ps) h = either (Each P) (due p) (h.0, each-due due ps h.1) (each-due due ps h.1)
+  pub each_due : (due : ℕ → Bool) (ps : List ℕ) → Each P ps → Each P (due_among due ps)
+  each_due due [] h = tt
+  each_due due (p ∷ ps) h = either (Each P) (due p) (h.0, each_due due ps h.1) (each_due due ps h.1)
 
   pub each_take : (k : ℕ) (ps : List ℕ) → Each P ps → Each P (take k ps)
   each_take zero ps h = tt
@@ -52,37 +52,37 @@ module _ (P : ℕ → Type 0) where
 
 -- ---- fewer places
 
-pub apart-due : (due : ℕ → Bool) (ps : List ℕ) → AllApart ps → AllApart (dueAmong due ps)
-apart-due due [] h = tt
-apart-due due (p ∷ ps) h =
-    either AllApart (due p) (each-due (λ (q : ℕ). q ≢ p) due ps h.0, apart-due due ps h.1)
-    (apart-due due ps h.1)
+pub apart_due : (due : ℕ → Bool) (ps : List ℕ) → AllApart ps → AllApart (due_among due ps)
+apart_due due [] h = tt
+apart_due due (p ∷ ps) h =
+    either AllApart (due p) (each_due (λ (q : ℕ). q ≢ p) due ps h.0, apart_due due ps h.1)
+    (apart_due due ps h.1)
 
-pub apart-take : (k : ℕ) (ps : List ℕ) → AllApart ps → AllApart (take k ps)
-apart-take zero ps h = tt
-apart-take (suc k) [] h = tt
-apart-take (suc k) (p ∷ ps) h = (each_take (λ (q : ℕ). q ≢ p) k ps h.0, apart-take k ps h.1)
+pub apart_take : (k : ℕ) (ps : List ℕ) → AllApart ps → AllApart (take k ps)
+apart_take zero ps h = tt
+apart_take (suc k) [] h = tt
+apart_take (suc k) (p ∷ ps) h = (each_take (λ (q : ℕ). q ≢ p) k ps h.0, apart_take k ps h.1)
 
 module _ (due : ℕ → Bool) where
   abbrev Due : List ℕ → Type 0
   Due = Each (λ (p : ℕ). due p ≡ true)
 
-  due-if : (p : ℕ) (ps : List ℕ) (b : Bool) → due p ≡ b → Due ps → Due (cond b (p ∷ ps) ps)
-  due-if p ps true e h = (e, h)
-  due-if p ps false e h = h
+  due_if : (p : ℕ) (ps : List ℕ) (b : Bool) → due p ≡ b → Due ps → Due (cond b (p ∷ ps) ps)
+  due_if p ps true e h = (e, h)
+  due_if p ps false e h = h
 
-  sum-if :
+  sum_if :
       (b : Bool) (p : ℕ) (ps : List ℕ) {n : ℕ} → length ps ≡ n → length (cond b (p ∷ ps) ps) ≡ cond b 1 0 + n
-  sum-if true p ps e = omega (arith, e)
-  sum-if false p ps e = omega (arith, e)
+  sum_if true p ps e = omega (arith, e)
+  sum_if false p ps e = omega (arith, e)
 
-  pub due-true : (ps : List ℕ) → Due (dueAmong due ps)
-  due-true [] = tt
-  due-true (p ∷ ps) = due-if p (dueAmong due ps) (due p) refl (due-true ps)
+  pub due_true : (ps : List ℕ) → Due (due_among due ps)
+  due_true [] = tt
+  due_true (p ∷ ps) = due_if p (due_among due ps) (due p) refl (due_true ps)
 
-  pub due-sum : (ps : List ℕ) → length (dueAmong due ps) ≡ sum_of (λ (p : ℕ). cond (due p) 1 0) ps
-  due-sum [] = refl
-  due-sum (p ∷ ps) = sum-if (due p) p (dueAmong due ps) (due-sum ps)
+  pub due_sum : (ps : List ℕ) → length (due_among due ps) ≡ sum_of (λ (p : ℕ). cond (due p) 1 0) ps
+  due_sum [] = refl
+  due_sum (p ∷ ps) = sum_if (due p) p (due_among due ps) (due_sum ps)
 
   -- a place that is due is left out by none but a list where it does not stand
   module _ (x : ℕ) (d : due x ≡ true) where
@@ -92,9 +92,9 @@ module _ (due : ℕ → Bool) where
     lacks-if p ps rest true e on h = (h.0, on h.1)
     lacks-if p ps rest false e on h = (λ same. true≢false (sym d ∙ ap due (sym same) ∙ e), on h)
 
-    pub due-lacks : (ps : List ℕ) → NotIn x (dueAmong due ps) → NotIn x ps
+    pub due-lacks : (ps : List ℕ) → NotIn x (due_among due ps) → NotIn x ps
     due-lacks [] h = tt
-    due-lacks (p ∷ ps) h = lacks-if p ps (dueAmong due ps) (due p) refl (due-lacks ps) h
+    due-lacks (p ∷ ps) h = lacks-if p ps (due_among due ps) (due p) refl (due-lacks ps) h
 
     full-if :
         (k : ℕ) (ps l : List ℕ) (all : Bool) → leb (length l) k ≡ all → (NotIn x l → NotIn x ps) →
@@ -104,39 +104,39 @@ module _ (due : ℕ → Bool) where
         absurd (there (on (subst (NotIn x) (take_all k l (leb-true (length l) k e)) h)))
 
     pub first-full :
-        (k : ℕ) (ps : List ℕ) → (NotIn x ps → ⊥) → NotIn x (take k (dueAmong due ps)) →
-        length (take k (dueAmong due ps)) ≡ k
-    first-full k ps = full-if k ps (dueAmong due ps) (leb (length (dueAmong due ps)) k) refl (due-lacks ps)
+        (k : ℕ) (ps : List ℕ) → (NotIn x ps → ⊥) → NotIn x (take k (due_among due ps)) →
+        length (take k (due_among due ps)) ≡ k
+    first-full k ps = full-if k ps (due_among due ps) (leb (length (due_among due ps)) k) refl (due-lacks ps)
 
 -- ---- what is asked of each place alone decides
 
-pub same-due :
-    (f g : ℕ → Bool) (ps : List ℕ) → Each (λ (p : ℕ). f p ≡ g p) ps → dueAmong f ps ≡ dueAmong g ps
-same-due f g [] h = refl
-same-due f g (p ∷ ps) h =
-    let rest = same-due f g ps h.1 in λ i. cond (h.0 i) (p ∷ rest i) (rest i)
+pub same_due :
+    (f g : ℕ → Bool) (ps : List ℕ) → Each (λ (p : ℕ). f p ≡ g p) ps → due_among f ps ≡ due_among g ps
+same_due f g [] h = refl
+same_due f g (p ∷ ps) h =
+    let rest = same_due f g ps h.1 in λ i. cond (h.0 i) (p ∷ rest i) (rest i)
 
-pub same-said :
+pub same_said :
     {B : Type 0} (f g : ℕ → List B) (ps : List ℕ) → Each (λ (p : ℕ). f p ≡ g p) ps → flat_map f ps ≡ flat_map g ps
 unfolding flat_map
-same-said f g [] h = refl
-same-said f g (p ∷ ps) h = λ i. h.0 i ++ same-said f g ps h.1 i
+same_said f g [] h = refl
+same_said f g (p ∷ ps) h = λ i. h.0 i ++ same_said f g ps h.1 i
 
-pub said-count :
+pub said_count :
     {B : Type 0} (f : ℕ → List B) (ps : List ℕ) → Each (λ (p : ℕ). length (f p) ≡ 1) ps →
     length (flat_map f ps) ≡ length ps
 unfolding flat_map
-said-count f [] h = refl
-said-count f (p ∷ ps) h = omega (arith, length-append (f p) (flat_map f ps), h.0, said-count f ps h.1)
+said_count f [] h = refl
+said_count f (p ∷ ps) h = omega (arith, length-append (f p) (flat_map f ps), h.0, said_count f ps h.1)
 
 -- ---- one of some places, or none of them
 module _ (P : ℕ → Type 0) (C : Type 0) (x : ℕ) (one : P x → C) where
-  among-if :
+  among_if :
       (p : ℕ) (ps : List ℕ) (here : Bool) → eqb p x ≡ here → P p → (NotIn x (p ∷ ps) → C) →
       ((NotIn x ps → C) → C) → C
-  among-if p ps true e h none rest = one (subst P (eqb-true p x e) h)
-  among-if p ps false e h none rest = rest (λ others. none (eqb-false p x e, others))
+  among_if p ps true e h none rest = one (subst P (eqb-true p x e) h)
+  among_if p ps false e h none rest = rest (λ others. none (eqb-false p x e, others))
 
   pub among : (ps : List ℕ) → Each P ps → (NotIn x ps → C) → C
   among [] h none = none tt
-  among (p ∷ ps) h none = among-if p ps (eqb p x) refl h.0 none (among ps h.1)
+  among (p ∷ ps) h none = among_if p ps (eqb p x) refl h.0 none (among ps h.1)

@@ -18,37 +18,37 @@ use Rattle.domain.specs.declared.Domain.{Domain}
 use Rattle.master_send.specs.declared.SendAnswer.{SendAnswer}
 use Rattle.master_send.specs.declared.SendAnswer.TheVariants.{Sent, NotDue}
 use Rattle.master_send.specs.declared.SendStep.{SendStep}
-use Rattle.domain.specs.Records.{recordAt}
-use Rattle.round.specs.Turn.{turn_of, nextPlace, nextAfter}
-use Rattle.round.specs.Round.{framesBy, sentAfter, Gone, before, goes, roundOf, pasted, RoundIn}
+use Rattle.domain.specs.Records.{record_at}
+use Rattle.round.specs.Turn.{turn_of, next_place, next_after}
+use Rattle.round.specs.Round.{frames_by, sent_after, Gone, before, goes, round_of, pasted, RoundIn}
 
 -- ---- one turn
-pub goes-turn :
+pub goes_turn :
     (k at sent most : ℕ) (t : VirtualLocalTime) (ds : List Domain) (next : ℕ) →
-    let s = turn_of (ltb sent most) (recordAt ds at) t in
+    let s = turn_of (ltb sent most) (record_at ds at) t in
     goes (suc k) at sent most t ds next
-    ≡ before (framesBy s.answer (recordAt ds at).settings.ids)
-    (goes k (nextPlace places at) (sentAfter s.answer sent) most t (set ds at s.domain)
-    (nextAfter s.answer at next))
+    ≡ before (frames_by s.answer (record_at ds at).settings.ids)
+    (goes k (next_place places at) (sent_after s.answer sent) most t (set ds at s.domain)
+    (next_after s.answer at next))
 unfolding goes
-goes-turn k at sent most t ds next = refl
+goes_turn k at sent most t ds next = refl
 
-pub pasted-turn :
+pub pasted_turn :
     (a : SendAnswer) (ids : DataIds) (sent : ℕ) (frames : List (List ℕ)) (out : List ℕ) →
-    pasted sent (framesBy a ids ++ frames) out
-    ≡ pasted (sentAfter a sent) frames (pasted sent (framesBy a ids) out)
-pasted-turn (Sent s) ids sent frames out = refl
-pasted-turn NotDue ids sent frames out = refl
+    pasted sent (frames_by a ids ++ frames) out
+    ≡ pasted (sent_after a sent) frames (pasted sent (frames_by a ids) out)
+pasted_turn (Sent s) ids sent frames out = refl
+pasted_turn NotDue ids sent frames out = refl
 
-pub counted-turn :
+pub counted_turn :
     (a : SendAnswer) (ids : DataIds) (sent : ℕ) (frames : List (List ℕ)) →
-    sentAfter a sent + length frames ≡ sent + length (framesBy a ids ++ frames)
-counted-turn (Sent s) ids sent frames = omega arith
-counted-turn NotDue ids sent frames = refl
+    sent_after a sent + length frames ≡ sent + length (frames_by a ids ++ frames)
+counted_turn (Sent s) ids sent frames = omega arith
+counted_turn NotDue ids sent frames = refl
 
-pub sent-least : (a : SendAnswer) (sent : ℕ) → sentAfter a sent ≤ sent + 1
-sent-least (Sent s) sent = omega arith
-sent-least NotDue sent = omega arith
+pub sent_least : (a : SendAnswer) (sent : ℕ) → sent_after a sent ≤ sent + 1
+sent_least (Sent s) sent = omega arith
+sent_least NotDue sent = omega arith
 
 -- ---- what is left decides
 pub record Rest
@@ -61,43 +61,43 @@ pub record Rest
 
 module _ (whole : Gone) (first : List ℕ) (most : ℕ) (t : VirtualLocalTime) (k at sent : ℕ) (ds : List Domain)
     (next : ℕ) (out : List ℕ) (s : SendStep) (d : Domain) (ids : DataIds) (sent' next' : ℕ) (out' : List ℕ)
-    (es : s ≡ turn_of (ltb sent most) d t) (ed : d ≡ recordAt ds at) (ei : ids ≡ d.settings.ids)
-    (ec : sent' ≡ sentAfter s.answer sent) (eo : out' ≡ pasted sent (framesBy s.answer ids) out)
-    (en : next' ≡ nextAfter s.answer at next) where
+    (es : s ≡ turn_of (ltb sent most) d t) (ed : d ≡ record_at ds at) (ei : ids ≡ d.settings.ids)
+    (ec : sent' ≡ sent_after s.answer sent) (eo : out' ≡ pasted sent (frames_by s.answer ids) out)
+    (en : next' ≡ next_after s.answer at next) where
   abbrev one : SendStep
-  one = turn_of (ltb sent most) (recordAt ds at) t
+  one = turn_of (ltb sent most) (record_at ds at) t
 
   abbrev left : Gone
   left =
-      goes k (nextPlace places at) (sentAfter one.answer sent) most t (set ds at one.domain)
-      (nextAfter one.answer at next)
+      goes k (next_place places at) (sent_after one.answer sent) most t (set ds at one.domain)
+      (next_after one.answer at next)
 
-  told : goes (suc k) at sent most t ds next ≡ before (framesBy one.answer (recordAt ds at).settings.ids) left
-  told = goes-turn k at sent most t ds next
+  told : goes (suc k) at sent most t ds next ≡ before (frames_by one.answer (record_at ds at).settings.ids) left
+  told = goes_turn k at sent most t ds next
 
   pub onward :
       Rest whole first most t (suc k) at sent ds next out →
-      Rest whole first most t k (nextPlace places at) sent' (set ds at s.domain) next' out'
+      Rest whole first most t k (next_place places at) sent' (set ds at s.domain) next' out'
   onward r =
       record {
         domains = rw (ec, en, es, ed) (sym (ap (λ (g : Gone). g.domains) told) ∙ r.domains);
         next_one = rw (ec, en, es, ed) (sym (ap (λ (g : Gone). g.next) told) ∙ r.next_one);
         count =
             rw (ec, en, es, ed)
-            (counted-turn one.answer (recordAt ds at).settings.ids sent left.frames
+            (counted_turn one.answer (record_at ds at).settings.ids sent left.frames
             ∙ sym (ap (λ (g : Gone). sent + length g.frames) told) ∙ r.count);
         bytes =
             rw (ec, en, eo, ei, es, ed)
-            (sym (pasted-turn one.answer (recordAt ds at).settings.ids sent left.frames out)
+            (sym (pasted_turn one.answer (record_at ds at).settings.ids sent left.frames out)
             ∙ sym (ap (λ (g : Gone). pasted sent g.frames out) told) ∙ r.bytes);
       }
 
-pub at-end :
+pub at_end :
     (ds₀ : List Domain) (f most : ℕ) (t : VirtualLocalTime) (at sent : ℕ) (ds : List Domain) (next : ℕ)
-    (first out : List ℕ) → Rest (roundOf ds₀ f t most) first most t zero at sent ds next out →
+    (first out : List ℕ) → Rest (round_of ds₀ f t most) first most t zero at sent ds next out →
     RoundIn ds₀ f t most first (record { domains = ds; next = next; sent = sent }) out
 unfolding goes
-at-end ds₀ f most t at sent ds next first out r =
+at_end ds₀ f most t at sent ds next first out r =
     record {
       round =
           λ i. record { domains = r.domains i; next = r.next_one i; sent = (sym (add-zero sent) ∙ r.count) i };

@@ -13,37 +13,37 @@ use mathlib.Core.Bool.{Bool, true, false, cond}
 use mathlib.Core.List.{List, [], ◌∷◌, ◌++◌, flat_map}
 use lib.ListN.{length, get_or, set, take, length-set}
 use lib.Seq.{lt-length-set, get_or-set_same, get_or-set_other}
-use Rattle.round.specs.Turn.{nextPlace}
-use Rattle.round.specs.FirstDue.{dueAmong, Each, NotIn, AllApart, nextBehind}
-use Rattle.round.proofs.Places.{each-by, each-with, each-due, each_take, same-due, same-said}
+use Rattle.round.specs.Turn.{next_place}
+use Rattle.round.specs.FirstDue.{due_among, Each, NotIn, AllApart, next_behind}
+use Rattle.round.proofs.Places.{each_by, each_with, each_due, each_take, same_due, same_said}
 
 -- ---- the records after some services; e stands in where there is no record
 module _ {A : Type 0} (e : A) (serve : A → A) where
   abbrev pub served_at : List A → ℕ → List A
   served_at l p = set l p (serve (get_or l p e))
 
-  abbrev pub afterAll : List ℕ → List A → List A
-  afterAll [] l = l
-  afterAll (p ∷ ps) l = afterAll ps (served_at l p)
+  abbrev pub after_all : List ℕ → List A → List A
+  after_all [] l = l
+  after_all (p ∷ ps) l = after_all ps (served_at l p)
 
-  pub after-length : (ps : List ℕ) (l : List A) → length (afterAll ps l) ≡ length l
-  after-length [] l = refl
-  after-length (p ∷ ps) l = after-length ps (served_at l p) ∙ length-set l p _
+  pub after_length : (ps : List ℕ) (l : List A) → length (after_all ps l) ≡ length l
+  after_length [] l = refl
+  after_length (p ∷ ps) l = after_length ps (served_at l p) ∙ length-set l p _
 
-  pub after-other :
-      (x : ℕ) (ps : List ℕ) (l : List A) → NotIn x ps → get_or (afterAll ps l) x e ≡ get_or l x e
-  after-other x [] l h = refl
-  after-other x (p ∷ ps) l h =
-      after-other x ps (served_at l p) h.1 ∙ get_or-set_other l p x _ e (λ same. h.0 (sym same))
+  pub after_other :
+      (x : ℕ) (ps : List ℕ) (l : List A) → NotIn x ps → get_or (after_all ps l) x e ≡ get_or l x e
+  after_other x [] l h = refl
+  after_other x (p ∷ ps) l h =
+      after_other x ps (served_at l p) h.1 ∙ get_or-set_other l p x _ e (λ same. h.0 (sym same))
 
-  pub after-served :
+  pub after_served :
       (ps : List ℕ) (l : List A) → AllApart ps → Each (λ (p : ℕ). p < length l) ps →
-      Each (λ (p : ℕ). get_or (afterAll ps l) p e ≡ serve (get_or l p e)) ps
-  after-served [] l a h = tt
-  after-served (p ∷ ps) l a h = (
-    after-other p ps (served_at l p) a.0 ∙ get_or-set_same l p _ e h.0,
-    each-with (λ (q : ℕ) (other : q ≢ p) same. same ∙ ap serve (get_or-set_other l p q _ e other)) ps a.0
-        (after-served ps (served_at l p) a.1 (each-by (λ (q : ℕ) b. lt-length-set l p _ b) ps h.1)),
+      Each (λ (p : ℕ). get_or (after_all ps l) p e ≡ serve (get_or l p e)) ps
+  after_served [] l a h = tt
+  after_served (p ∷ ps) l a h = (
+    after_other p ps (served_at l p) a.0 ∙ get_or-set_same l p _ e h.0,
+    each_with (λ (q : ℕ) (other : q ≢ p) same. same ∙ ap serve (get_or-set_other l p q _ e other)) ps a.0
+        (after_served ps (served_at l p) a.1 (each_by (λ (q : ℕ) b. lt-length-set l p _ b) ps h.1)),
   )
 
 -- ---- a round told by the places it serves: the records after it, where the next starts, and what is said
@@ -57,21 +57,21 @@ module _ {A B : Type 0} (n : ℕ) (e : A) (due : A → Bool) (serve : A → A) (
   abbrev due_at : List A → ℕ → Bool
   due_at l p = due (get_or l p e)
 
-  abbrev sayAt : List A → ℕ → List B
-  sayAt l p = say (get_or l p e)
+  abbrev say_at : List A → ℕ → List B
+  say_at l p = say (get_or l p e)
 
-  abbrev pub toldOf : List ℕ → List A → (next : ℕ) → Told A B
-  toldOf served l next = (afterAll e serve served l, nextBehind n served next, flat_map (sayAt l) served)
+  abbrev pub told_of : List ℕ → List A → (next : ℕ) → Told A B
+  told_of served l next = (after_all e serve served l, next_behind n served next, flat_map (say_at l) served)
 
   abbrev pub told : (left : ℕ) → List ℕ → List A → (next : ℕ) → Told A B
-  told left ps l next = toldOf (take left (dueAmong (due_at l) ps)) l next
+  told left ps l next = told_of (take left (due_among (due_at l) ps)) l next
 
   module _ (left p : ℕ) (ps : List ℕ) (l : List A) (next : ℕ) where
     abbrev rest : List ℕ
-    rest = dueAmong (due_at l) ps
+    rest = due_among (due_at l) ps
 
     pub told-rests : due (get_or l p e) ≡ false → told left (p ∷ ps) l next ≡ told left ps l next
-    told-rests h = ap (λ (b : Bool). toldOf (take left (cond b (p ∷ rest) rest)) l next) h
+    told-rests h = ap (λ (b : Bool). told_of (take left (cond b (p ∷ rest) rest)) l next) h
 
     -- no later place is p, so that what is due and said there is as it was
     module _ (h : due (get_or l p e) ≡ true) (others : NotIn p ps) where
@@ -79,27 +79,27 @@ module _ {A B : Type 0} (n : ℕ) (e : A) (due : A → Bool) (serve : A → A) (
       after = served_at e serve l p
 
       stays : {C : Type 0} (f : A → C) → Each (λ (q : ℕ). f (get_or l q e) ≡ f (get_or after q e)) ps
-      stays f = each-by (λ (q : ℕ) (other : q ≢ p). ap f (sym (get_or-set_other l p q _ e other))) ps others
+      stays f = each_by (λ (q : ℕ) (other : q ≢ p). ap f (sym (get_or-set_other l p q _ e other))) ps others
 
-      same_chosen : take left rest ≡ take left (dueAmong (due_at after) ps)
-      same_chosen = ap (take left) (same-due (due_at l) (due_at after) ps (stays due))
+      same_chosen : take left rest ≡ take left (due_among (due_at after) ps)
+      same_chosen = ap (take left) (same_due (due_at l) (due_at after) ps (stays due))
 
       abbrev SaysSame : ℕ → Type 0
-      SaysSame q = sayAt l q ≡ sayAt after q
+      SaysSame q = say_at l q ≡ say_at after q
 
-      same-words : flat_map (sayAt l) (take left rest) ≡ flat_map (sayAt after) (take left (dueAmong (due_at after) ps))
+      same-words : flat_map (say_at l) (take left rest) ≡ flat_map (say_at after) (take left (due_among (due_at after) ps))
       same-words =
-          same-said (sayAt l) (sayAt after) (take left rest)
-          (each_take SaysSame left rest (each-due SaysSame (due_at l) ps (stays say)))
-          ∙ ap (flat_map (sayAt after)) same_chosen
+          same_said (say_at l) (say_at after) (take left rest)
+          (each_take SaysSame left rest (each_due SaysSame (due_at l) ps (stays say)))
+          ∙ ap (flat_map (say_at after)) same_chosen
 
       pub told-serves :
-          told (suc left) (p ∷ ps) l next ≡ saying (sayAt l p) (told left ps (served_at e serve l p) (nextPlace n p))
+          told (suc left) (p ∷ ps) l next ≡ saying (say_at l p) (told left ps (served_at e serve l p) (next_place n p))
       unfolding flat_map
       told-serves =
-          ap (λ (b : Bool). toldOf (take (suc left) (cond b (p ∷ rest) rest)) l next) h
+          ap (λ (b : Bool). told_of (take (suc left) (cond b (p ∷ rest) rest)) l next) h
           ∙ (λ i. (
-            afterAll e serve (same_chosen i) after,
-            nextBehind n (same_chosen i) (nextPlace n p),
-            sayAt l p ++ same-words i,
+            after_all e serve (same_chosen i) after,
+            next_behind n (same_chosen i) (next_place n p),
+            say_at l p ++ same-words i,
           ))

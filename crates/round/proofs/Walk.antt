@@ -14,38 +14,38 @@ use native.Mathlib.Numerals.{add-one}
 use native.Mathlib.Omega.{arith}
 use lib.Dec.{ltb, leb, eqb}
 use borrow.Author.Tests.{ltb-true, ltb-false, leb-true, leb-false, eqb-true, eqb-false}
-use Rattle.round.specs.Turn.{nextPlace}
+use Rattle.round.specs.Turn.{next_place}
 use Rattle.round.specs.FirstDue.{walk, Each, NotIn, AllApart}
 use Rattle.round.proofs.Places.{sum_of}
 
 -- ---- the next place
 
-next-if :
+next_if :
     (P : ℕ → Type 0) (n p : ℕ) (b : Bool) → ltb (p + 1) n ≡ b → p < n → (p + 1 < n → P (p + 1)) →
-    (p + 1 ≡ n → P 0) → P (nextPlace n p)
-next-if P n p true e h on round =
+    (p + 1 ≡ n → P 0) → P (next_place n p)
+next_if P n p true e h on round =
     let more = ltb-true (p + 1) n e in subst P (sym (mod-eq_of_lt more)) (on more)
-next-if P n p false e h on round =
+next_if P n p false e h on round =
     let last : p + 1 ≡ n = omega (arith, ltb-false (p + 1) n e) in
     subst P (sym (ap (λ (x : ℕ). x % n) last ∙ mod_self n)) (round last)
 
-pub next-by :
-    (P : ℕ → Type 0) (n p : ℕ) → p < n → (p + 1 < n → P (p + 1)) → (p + 1 ≡ n → P 0) → P (nextPlace n p)
-next-by P n p = next-if P n p (ltb (p + 1) n) refl
+pub next_by :
+    (P : ℕ → Type 0) (n p : ℕ) → p < n → (p + 1 < n → P (p + 1)) → (p + 1 ≡ n → P 0) → P (next_place n p)
+next_by P n p = next_if P n p (ltb (p + 1) n) refl
 
-next-below : (n p : ℕ) → p < n → nextPlace n p < n
-next-below n p h = mod-lt (p + 1) (omega arith)
+next_below : (n p : ℕ) → p < n → next_place n p < n
+next_below n p h = mod-lt (p + 1) (omega arith)
 
 -- ---- a count f over the places below n
-abbrev pub sumBelow : (f : ℕ → ℕ) → (n : ℕ) → ℕ
-sumBelow f zero = 0
-sumBelow f (suc p) = sumBelow f p + f p
+abbrev pub sum_below : (f : ℕ → ℕ) → (n : ℕ) → ℕ
+sum_below f zero = 0
+sum_below f (suc p) = sum_below f p + f p
 
 -- ---- a walk
 module _ (n : ℕ) where
-  pub walk-below : (k p : ℕ) → p < n → Each (λ (q : ℕ). q < n) (walk n k p)
-  walk-below zero p h = tt
-  walk-below (suc k) p h = (h, walk-below k (nextPlace n p) (next-below n p h))
+  pub walk_below : (k p : ℕ) → p < n → Each (λ (q : ℕ). q < n) (walk n k p)
+  walk_below zero p h = tt
+  walk_below (suc k) p h = (h, walk_below k (next_place n p) (next_below n p h))
 
   -- it does not come to x from below, nor from above and round
   module _ (x : ℕ) where
@@ -56,25 +56,25 @@ module _ (n : ℕ) where
     from-below zero p b h = tt
     from-below (suc k) p b h = (
       λ e. omega arith,
-      next-by (Misses k) n p (omega arith) (λ m. from-below k (p + 1) b (omega arith)) (λ m. absurd (omega arith)),
+      next_by (Misses k) n p (omega arith) (λ m. from-below k (p + 1) b (omega arith)) (λ m. absurd (omega arith)),
     )
 
     from-above : (k p : ℕ) → x < p → p < n → p + k ≤ x + n → Misses k p
     from-above zero p l b h = tt
     from-above (suc k) p l b h = (
       λ e. omega arith,
-      next-by (Misses k) n p b
+      next_by (Misses k) n p b
           (λ m. from-above k (p + 1) (omega arith) m (omega arith))
           (λ m. from-below k 0 (omega arith) (omega arith)),
     )
 
-  pub walk-apart : (k p : ℕ) → k ≤ n → p < n → AllApart (walk n k p)
-  walk-apart zero p h b = tt
-  walk-apart (suc k) p h b = (
-    next-by (Misses p k) n p b
+  pub walk_apart : (k p : ℕ) → k ≤ n → p < n → AllApart (walk n k p)
+  walk_apart zero p h b = tt
+  walk_apart (suc k) p h b = (
+    next_by (Misses p k) n p b
         (λ m. from-above p k (p + 1) (omega arith) m (omega arith))
         (λ m. from-below p k 0 b (omega arith)),
-    walk-apart k (nextPlace n p) (omega arith) (next-below n p b),
+    walk_apart k (next_place n p) (omega arith) (next_below n p b),
   )
 
   -- what holds of each place of a walk holds of a place x that is ahead, or ahead after the last
@@ -87,7 +87,7 @@ module _ (n : ℕ) where
     ahead-if false k p c l on e =
         let other : p ≢ x = eqb-false p x c in
         let more : p < x = omega arith in
-        next-by (Comes k) n p (omega arith) (λ m. on more) (λ m. absurd (omega arith)) e.1
+        next_by (Comes k) n p (omega arith) (λ m. on more) (λ m. absurd (omega arith)) e.1
 
     ahead : (k p : ℕ) → p ≤ x → x < p + k → Comes k p
     ahead zero p l h = λ e. absurd (omega arith)
@@ -96,7 +96,7 @@ module _ (n : ℕ) where
     behind : (k p : ℕ) → x < p → p < n → x + n < p + k → Comes k p
     behind zero p l a h = λ e. absurd (omega arith)
     behind (suc k) p l a h = λ e.
-        next-by (Comes k) n p a
+        next_by (Comes k) n p a
         (λ m. behind k (p + 1) (omega arith) m (omega arith))
         (λ m. ahead k 0 (omega arith) (omega arith)) e.1
 
@@ -109,33 +109,33 @@ module _ (n : ℕ) where
 
   -- up to the last place a walk counts those from p on, and round it those before p too
   module _ (f : ℕ → ℕ) where
-    on : (p : ℕ) → sumBelow f (p + 1) ≡ sumBelow f p + f p
-    on p = ap (sumBelow f) (add-one p)
+    on : (p : ℕ) → sum_below f (p + 1) ≡ sum_below f p + f p
+    on p = ap (sum_below f) (add-one p)
 
-    sum-up : (k p : ℕ) → p + k ≤ n → sumBelow f p + sum_of f (walk n k p) ≡ sumBelow f (p + k)
-    sum-up zero p h = omega (arith, ap (sumBelow f) (add-zero p))
+    sum-up : (k p : ℕ) → p + k ≤ n → sum_below f p + sum_of f (walk n k p) ≡ sum_below f (p + k)
+    sum-up zero p h = omega (arith, ap (sum_below f) (add-zero p))
     sum-up (suc k) p h =
-        let all = sumBelow f (p + suc k) in
-        next-by (λ (q : ℕ). sumBelow f p + (f p + sum_of f (walk n k q)) ≡ all) n p (omega arith)
+        let all = sum_below f (p + suc k) in
+        next_by (λ (q : ℕ). sum_below f p + (f p + sum_of f (walk n k q)) ≡ all) n p (omega arith)
         (λ m. let same : p + 1 + k ≡ p + suc k = omega arith in
-        omega (arith, on p, sum-up k (p + 1) (omega arith), ap (sumBelow f) same))
+        omega (arith, on p, sum-up k (p + 1) (omega arith), ap (sum_below f) same))
         (λ m. let same : p + 1 ≡ p + suc k = omega arith in
         let ended : 0 + k ≡ 0 = omega arith in
-        omega (arith, on p, sum-up k 0 (omega arith), ap (sumBelow f) ended, ap (sumBelow f) same))
+        omega (arith, on p, sum-up k 0 (omega arith), ap (sum_below f) ended, ap (sum_below f) same))
 
     sum-round :
         (k p : ℕ) → p < n → n ≤ p + k → p + k ≤ n + n →
-        sumBelow f p + sum_of f (walk n k p) ≡ sumBelow f n + sumBelow f (p + k - n)
+        sum_below f p + sum_of f (walk n k p) ≡ sum_below f n + sum_below f (p + k - n)
     sum-round zero p b h l = absurd (omega arith)
     sum-round (suc k) p b h l =
-        let all = sumBelow f n + sumBelow f (p + suc k - n) in
-        next-by (λ (q : ℕ). sumBelow f p + (f p + sum_of f (walk n k q)) ≡ all) n p b
+        let all = sum_below f n + sum_below f (p + suc k - n) in
+        next_by (λ (q : ℕ). sum_below f p + (f p + sum_of f (walk n k q)) ≡ all) n p b
         (λ m. let same : p + 1 + k - n ≡ p + suc k - n = omega arith in
-        omega (arith, on p, sum-round k (p + 1) m (omega arith) (omega arith), ap (sumBelow f) same))
+        omega (arith, on p, sum-round k (p + 1) m (omega arith) (omega arith), ap (sum_below f) same))
         (λ m. let same : 0 + k ≡ p + suc k - n = omega arith in
-        omega (arith, on p, sum-up k 0 (omega arith), ap (sumBelow f) m, ap (sumBelow f) same))
+        omega (arith, on p, sum-up k 0 (omega arith), ap (sum_below f) m, ap (sum_below f) same))
 
-    pub walk-sum : (at : ℕ) → at < n → sum_of f (walk n n at) ≡ sumBelow f n
+    pub walk-sum : (at : ℕ) → at < n → sum_of f (walk n n at) ≡ sum_below f n
     walk-sum at b =
         let back : at + n - n ≡ at = omega arith in
-        omega (arith, sum-round n at b (omega arith) (omega arith), ap (sumBelow f) back)
+        omega (arith, sum-round n at b (omega arith) (omega arith), ap (sum_below f) back)

@@ -7,25 +7,25 @@ use mathlib.Core.List.{List, [], ◌∷◌, flat_map}
 use Rattle.clock.specs.declared.reading.VirtualLocalTime.{VirtualLocalTime}
 use Rattle.settings.specs.Node.{places}
 use Rattle.domain.specs.declared.Domain.{Domain}
-use Rattle.master_send.specs.Send.{isDue, sendOf}
-use Rattle.domain.specs.Records.{recordAt}
-use Rattle.round.specs.Turn.{nextPlace}
-use Rattle.round.specs.Round.{framesBy, Gone}
+use Rattle.master_send.specs.Send.{is_due, send_of}
+use Rattle.domain.specs.Records.{record_at}
+use Rattle.round.specs.Turn.{next_place}
+use Rattle.round.specs.Round.{frames_by, Gone}
 
 -- ---- "going round": as many places as there are turns, from place `at` on, of n
 abbrev pub walk : (n turns at : ℕ) → List ℕ
 walk n zero at = []
-walk n (suc turns) at = at ∷ walk n turns (nextPlace n at)
+walk n (suc turns) at = at ∷ walk n turns (next_place n at)
 
 -- ---- of some places those that are due, in their order
-abbrev pub dueAmong : (due : ℕ → Bool) → List ℕ → List ℕ
-dueAmong due [] = []
-dueAmong due (p ∷ ps) = cond (due p) (p ∷ dueAmong due ps) (dueAmong due ps)
+abbrev pub due_among : (due : ℕ → Bool) → List ℕ → List ℕ
+due_among due [] = []
+due_among due (p ∷ ps) = cond (due p) (p ∷ due_among due ps) (due_among due ps)
 
 -- ---- "Starting after the domain served last .. and going round once, the first S due domains"
-abbrev pub servedOf : List Domain → (first : ℕ) → VirtualLocalTime → (most : ℕ) → List ℕ
-servedOf ds first t most =
-    take most (dueAmong (λ (p : ℕ). isDue (recordAt ds p) t) (walk places places (first % places)))
+abbrev pub served_of : List Domain → (first : ℕ) → VirtualLocalTime → (most : ℕ) → List ℕ
+served_of ds first t most =
+    take most (due_among (λ (p : ℕ). is_due (record_at ds p) t) (walk places places (first % places)))
 
 -- ---- P of each of a list; a place that is none of some; places of which none stands there twice
 abbrev pub Each : {A : Type 0} → (A → Type 0) → List A → Type 0
@@ -40,24 +40,24 @@ AllApart [] = Unit {0}
 AllApart (p ∷ ps) = NotIn p ps × AllApart ps
 
 -- ---- the place after that served last; as it was where none is served
-abbrev pub nextBehind : (n : ℕ) → List ℕ → (next : ℕ) → ℕ
-nextBehind n [] next = next
-nextBehind n (p ∷ ps) next = nextBehind n ps (nextPlace n p)
+abbrev pub next_behind : (n : ℕ) → List ℕ → (next : ℕ) → ℕ
+next_behind n [] next = next
+next_behind n (p ∷ ps) next = next_behind n ps (next_place n p)
 
 -- ---- the frame of a domain that sends
-abbrev pub frameBy : Domain → VirtualLocalTime → List (List ℕ)
-frameBy d t = framesBy (sendOf d t).answer d.settings.ids
+abbrev pub frame_by : Domain → VirtualLocalTime → List (List ℕ)
+frame_by d t = frames_by (send_of d t).answer d.settings.ids
 
 -- ---- A round that serves these places in their order, each once, and no other.
 pub record Serves
     (ds : List Domain) (first : ℕ) (t : VirtualLocalTime) (served : List ℕ) (g : Gone) : Type 0 where
   pub once : AllApart served
-  pub sends : Each (λ (p : ℕ). recordAt g.domains p ≡ (sendOf (recordAt ds p) t).domain) served
-  pub stays : (p : ℕ) → NotIn p served → recordAt g.domains p ≡ recordAt ds p
+  pub sends : Each (λ (p : ℕ). record_at g.domains p ≡ (send_of (record_at ds p) t).domain) served
+  pub stays : (p : ℕ) → NotIn p served → record_at g.domains p ≡ record_at ds p
   pub size : length g.domains ≡ length ds
-  pub next_one : g.next ≡ nextBehind places served first
-  pub frames : g.frames ≡ flat_map (λ (p : ℕ). frameBy (recordAt ds p) t) served
+  pub next_one : g.next ≡ next_behind places served first
+  pub frames : g.frames ≡ flat_map (λ (p : ℕ). frame_by (record_at ds p) t) served
   pub count : length g.frames ≡ length served
 
 abbrev pub FirstDue : List Domain → (first : ℕ) → VirtualLocalTime → (most : ℕ) → Gone → Type 0
-FirstDue ds first t most g = Serves ds first t (servedOf ds first t most) g
+FirstDue ds first t most g = Serves ds first t (served_of ds first t most) g

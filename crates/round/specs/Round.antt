@@ -4,23 +4,23 @@ use Rattle.std.specs.Prelude.{ℕ, zero, suc, ◌+◌, ◌*◌, ◌%◌, ◌≡�
 use Rattle.clock.specs.declared.reading.VirtualLocalTime.{VirtualLocalTime}
 use Rattle.frame.specs.declared.data_ids.DataIds.{DataIds}
 use Rattle.frame.specs.declared.values.Frame.TheVariants.{Sync as sync}
-use Rattle.frame_write.specs.Write.{bytes_of, is_room, writtenIn}
+use Rattle.frame_write.specs.Write.{bytes_of, is_room, written_in}
 use Rattle.settings.specs.Node.{places}
 use Rattle.domain.specs.declared.Domain.{Domain}
 use Rattle.master_send.specs.declared.SendAnswer.{SendAnswer}
 use Rattle.master_send.specs.declared.SendAnswer.TheVariants.{Sent, NotDue}
-use Rattle.round.specs.Turn.{turn_of, nextPlace, nextAfter}
+use Rattle.round.specs.Turn.{turn_of, next_place, next_after}
 use Rattle.round.specs.declared.Round.{Round}
-use Rattle.domain.specs.Records.{recordAt}
+use Rattle.domain.specs.Records.{record_at}
 
 -- ---- what a turn sends: its frame, or nothing
-abbrev pub framesBy : SendAnswer → DataIds → List (List ℕ)
-framesBy (Sent s) ids = bytes_of ids (sync s) ∷ []
-framesBy NotDue ids = []
+abbrev pub frames_by : SendAnswer → DataIds → List (List ℕ)
+frames_by (Sent s) ids = bytes_of ids (sync s) ∷ []
+frames_by NotDue ids = []
 
-abbrev pub sentAfter : SendAnswer → ℕ → ℕ
-sentAfter (Sent s) sent = sent + 1
-sentAfter NotDue sent = sent
+abbrev pub sent_after : SendAnswer → ℕ → ℕ
+sent_after (Sent s) sent = sent + 1
+sent_after NotDue sent = sent
 
 -- ---- The records after some turns, where the next round starts, and the frames sent.
 pub record Gone : Type 0 where
@@ -35,17 +35,17 @@ before frames g = record { domains = g.domains; next = g.next; frames = frames +
 unfoldable pub goes : (turns at sent most : ℕ) → VirtualLocalTime → List Domain → (next : ℕ) → Gone
 goes zero at sent most t ds next = record { domains = ds; next = next; frames = [] }
 goes (suc turns) at sent most t ds next =
-    let s = turn_of (ltb sent most) (recordAt ds at) t in
-    before (framesBy s.answer (recordAt ds at).settings.ids)
-    (goes turns (nextPlace places at) (sentAfter s.answer sent) most t (set ds at s.domain)
-    (nextAfter s.answer at next))
+    let s = turn_of (ltb sent most) (record_at ds at) t in
+    before (frames_by s.answer (record_at ds at).settings.ids)
+    (goes turns (next_place places at) (sent_after s.answer sent) most t (set ds at s.domain)
+    (next_after s.answer at next))
 
-abbrev pub roundOf : List Domain → (first : ℕ) → VirtualLocalTime → (most : ℕ) → Gone
-roundOf ds first t most = goes places (first % places) 0 most t ds first
+abbrev pub round_of : List Domain → (first : ℕ) → VirtualLocalTime → (most : ℕ) → Gone
+round_of ds first t most = goes places (first % places) 0 most t ds first
 
 -- ---- "written one after another in that order": from frame number `sent` on
 abbrev pub put_at : List ℕ → ℕ → List ℕ → List ℕ
-put_at frame sent out = cond (is_room (8 * sent) out) (writtenIn frame (8 * sent) out) out
+put_at frame sent out = cond (is_room (8 * sent) out) (written_in frame (8 * sent) out) out
 
 abbrev pub pasted : (sent : ℕ) → List (List ℕ) → List ℕ → List ℕ
 pasted sent [] out = out
@@ -53,15 +53,15 @@ pasted sent (frame ∷ frames) out = pasted (sent + 1) frames (put_at frame sent
 
 pub record PutAt
     (answer : SendAnswer) (ids : DataIds) (sent : ℕ) (before : List ℕ) (r : ℕ) (after : List ℕ) : Type 0 where
-  pub count : r ≡ sentAfter answer sent
-  pub bytes : after ≡ pasted sent (framesBy answer ids) before
+  pub count : r ≡ sent_after answer sent
+  pub bytes : after ≡ pasted sent (frames_by answer ids) before
 
 -- ---- "The result gives the number of frames"
-abbrev pub countedOf : Gone → Round
-countedOf g = record { domains = g.domains; next = g.next; sent = length g.frames }
+abbrev pub counted_of : Gone → Round
+counted_of g = record { domains = g.domains; next = g.next; sent = length g.frames }
 
 pub record RoundIn
     (ds : List Domain) (first : ℕ) (t : VirtualLocalTime) (most : ℕ) (before : List ℕ)
     (r : Round) (after : List ℕ) : Type 0 where
-  pub round : r ≡ countedOf (roundOf ds first t most)
-  pub bytes : after ≡ pasted 0 (roundOf ds first t most).frames before
+  pub round : r ≡ counted_of (round_of ds first t most)
+  pub bytes : after ≡ pasted 0 (round_of ds first t most).frames before

@@ -7,17 +7,17 @@ use Rattle.domain.specs.declared.Domain.{Domain}
 use Rattle.master_send.specs.declared.SendAnswer.{SendAnswer}
 use Rattle.master_send.specs.declared.SendAnswer.TheVariants.{Sent, NotDue}
 use Rattle.master_send.specs.declared.SendStep.{SendStep}
-use Rattle.master_send.specs.Send.{sendOf}
+use Rattle.master_send.specs.Send.{send_of}
 
 -- ---- "the first S due domains send": once S have sent, no other does
 abbrev pub turn_of : (maySend : Bool) → Domain → VirtualLocalTime → SendStep
-turn_of maySend d t = cond maySend (sendOf d t) (record { answer = NotDue; domain = d })
+turn_of maySend d t = cond maySend (send_of d t) (record { answer = NotDue; domain = d })
 
 -- ---- "going round": the place after p of n
-abbrev pub nextPlace : (n p : ℕ) → ℕ
-nextPlace n p = (p + 1) % n
+abbrev pub next_place : (n p : ℕ) → ℕ
+next_place n p = (p + 1) % n
 
 -- ---- "Starting after the domain served last"
-abbrev pub nextAfter : SendAnswer → (at next : ℕ) → ℕ
-nextAfter (Sent s) at next = nextPlace places (at % places)
-nextAfter NotDue at next = next
+abbrev pub next_after : SendAnswer → (at next : ℕ) → ℕ
+next_after (Sent s) at next = next_place places (at % places)
+next_after NotDue at next = next

@@ -1,7 +1,7 @@
 // A record's turn in the main cycle's round (paper 01, "A master's domain"), and where the next round
 // starts after it.
 ghost use Rattle.std.specs.Prelude.{◌≡◌};
-ghost use Rattle.round.specs.Turn.{turn_of, nextAfter};
+ghost use Rattle.round.specs.Turn.{turn_of, next_after};
 
 use clock::VirtualLocalTime;
 use domain::Domain;
@@ -27,7 +27,7 @@ pub fn turn(domain: Domain, t: VirtualLocalTime, may_send: bool) -> SendStep
 
 // Where the next round starts after a turn: behind a domain that sent.
 pub fn next_after(answer: SendAnswer, at: u8, next: u8) -> u8
-    ensures { result ≡ nextAfter answer at next }
+    ensures { result ≡ next_after answer at next }
 {
     match answer {
         SendAnswer::Sent(_) => (at % PLACES + 1) % PLACES,

@@ -20,7 +20,7 @@ pub enum Program {
 // A record of the bench.
 const RECORD: usize = 20;
 
-// No line is longer (`line-fits`).
+// No line is longer (`line_fits`).
 const LINE: usize = 1088;
 
 #[derive(Drop)]

@@ -3,12 +3,12 @@
 -- Assumes nothing.
 use mathlib.Core.Path.{◌≡◌}
 use Rattle.promise.specs.Only.{OnlyOne}
-use Rattle.promise.proofs.Laws.{equation-only}
+use Rattle.promise.proofs.Laws.{equation_only}
 use Rattle.settings.specs.declared.domain_settings.DomainSettings.{DomainSettings}
-use Rattle.settings.specs.Domain.{absentHeld, held_of}
+use Rattle.settings.specs.Domain.{absent_held, held_of}
 
-pub held-only : (s : DomainSettings) → OnlyOne (λ (r : DomainSettings). r ≡ held_of s)
-held-only s = equation-only _
+pub held_only : (s : DomainSettings) → OnlyOne (λ (r : DomainSettings). r ≡ held_of s)
+held_only s = equation_only _
 
-pub absent-only : OnlyOne (λ (r : DomainSettings). r ≡ absentHeld)
-absent-only = equation-only _
+pub absent_only : OnlyOne (λ (r : DomainSettings). r ≡ absent_held)
+absent_only = equation_only _

@@ -12,8 +12,8 @@ use Rattle.settings.specs.declared.domain_settings.Security.TheVariants.{Plain}
 use Rattle.settings.specs.declared.domain_settings.UserBytes.{UserBytes}
 
 -- ---- "What isn't read is held as 0.": of an enum the first case, which the type has as 0
-abbrev pub absentHeld : DomainSettings
-absentHeld =
+abbrev pub absent_held : DomainSettings
+absent_held =
     record {
       follow_up_time = 0;
       loss_time = 0;
@@ -32,8 +32,8 @@ absentHeld =
     }
 
 -- ---- a slave's settings, and a master's: what the other role has read is 0
-abbrev pub asSlave : (j h f l future past count : ℕ) → CheckMode → DataIds → DomainSettings
-asSlave j h f l future past count mode ids =
+abbrev pub as_slave : (j h f l future past count : ℕ) → CheckMode → DataIds → DomainSettings
+as_slave j h f l future past count mode ids =
     record {
       follow_up_time = f;
       loss_time = l;
@@ -51,8 +51,8 @@ asSlave j h f l future past count mode ids =
       user = record { 0 = 0; 1 = 0; 2 = 0 };
     }
 
-abbrev pub asMaster : (p c : ℕ) → Security → UserBytes → DataIds → DomainSettings
-asMaster p c security user ids =
+abbrev pub as_master : (p c : ℕ) → Security → UserBytes → DataIds → DomainSettings
+as_master p c security user ids =
     record {
       follow_up_time = 0;
       loss_time = 0;
@@ -70,18 +70,18 @@ asMaster p c security user ids =
       user = user;
     }
 
-abbrev pub slaveHeld : DomainSettings → DomainSettings
-slaveHeld s =
-    asSlave s.jump_width s.hysteresis s.follow_up_time s.loss_time s.future_threshold
+abbrev pub slave_held : DomainSettings → DomainSettings
+slave_held s =
+    as_slave s.jump_width s.hysteresis s.follow_up_time s.loss_time s.future_threshold
     s.past_threshold s.clear_count s.mode s.ids
 
-abbrev pub masterHeld : DomainSettings → DomainSettings
-masterHeld s = asMaster s.period s.confirmation_time s.security s.user s.ids
+abbrev pub master_held : DomainSettings → DomainSettings
+master_held s = as_master s.period s.confirmation_time s.security s.user s.ids
 
-abbrev pub heldAs : Role → DomainSettings → DomainSettings
-heldAs Absent s = absentHeld
-heldAs Slave s = slaveHeld s
-heldAs Master s = masterHeld s
+abbrev pub held_as : Role → DomainSettings → DomainSettings
+held_as Absent s = absent_held
+held_as Slave s = slave_held s
+held_as Master s = master_held s
 
 abbrev pub held_of : DomainSettings → DomainSettings
-held_of s = heldAs s.role s
+held_of s = held_as s.role s

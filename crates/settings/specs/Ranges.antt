@@ -8,32 +8,32 @@ use Rattle.settings.specs.declared.domain_settings.Role.TheVariants.{Absent, Sla
 abbrev pub within : (least most x : ℕ) → Bool
 within least most x = leb least x && leb x most
 
-abbrev pub leapsGood : DomainSettings → Bool
-leapsGood s =
+abbrev pub leaps_good : DomainSettings → Bool
+leaps_good s =
     leb s.future_threshold 1000000000000
     && leb s.past_threshold 1000000000000
     && within 1 255 s.clear_count
 
-abbrev pub slaveGood : DomainSettings → Bool
-slaveGood s =
+abbrev pub slave_good : DomainSettings → Bool
+slave_good s =
     within 1 15 s.jump_width
     && leb s.hysteresis 15
     && within 1 10000000000 s.follow_up_time
     && ltb s.follow_up_time s.loss_time
     && leb s.loss_time 1000000000000
-    && leapsGood s
+    && leaps_good s
 
-abbrev pub masterGood : DomainSettings → Bool
-masterGood s =
+abbrev pub master_good : DomainSettings → Bool
+master_good s =
     within 1000000 1000000000000 s.period
     && within 1 3000000000 s.confirmation_time
     && ltb s.confirmation_time s.period
 
 -- ---- "A role's settings are read only for that role; an absent domain's are not read."
-abbrev pub isGoodAs : Role → DomainSettings → Bool
-isGoodAs Absent s = true
-isGoodAs Slave s = slaveGood s
-isGoodAs Master s = masterGood s
+abbrev pub is_good_as : Role → DomainSettings → Bool
+is_good_as Absent s = true
+is_good_as Slave s = slave_good s
+is_good_as Master s = master_good s
 
-abbrev pub isGood : DomainSettings → Bool
-isGood s = isGoodAs s.role s
+abbrev pub is_good : DomainSettings → Bool
+is_good s = is_good_as s.role s

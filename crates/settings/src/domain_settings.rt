@@ -1,9 +1,9 @@
 // The settings of one domain (paper 01, "Settings of a node"), for both roles.
 ghost use Rattle.std.specs.Prelude.{◌≡◌};
 ghost use Rattle.settings.specs.Domain.{
-  absentHeld,
-  slaveHeld,
-  masterHeld,
+  absent_held,
+  slave_held,
+  master_held,
   held_of,
 };
 
@@ -94,7 +94,7 @@ impl DomainSettings {
 
     // The settings of an absent domain: all 0.
     pub fn absent() -> DomainSettings
-        ensures { result ≡ absentHeld }
+        ensures { result ≡ absent_held }
     {
         DomainSettings {
             follow_up_time: 0,
@@ -118,7 +118,7 @@ impl DomainSettings {
     }
 
     fn slave_held(self) -> DomainSettings
-        ensures { result ≡ slaveHeld self }
+        ensures { result ≡ slave_held self }
     {
         let ids = self.ids;
         let mode = self.mode;
@@ -141,7 +141,7 @@ impl DomainSettings {
     }
 
     fn master_held(self) -> DomainSettings
-        ensures { result ≡ masterHeld self }
+        ensures { result ≡ master_held self }
     {
         let ids = self.ids;
         let security = self.security;

@@ -1,6 +1,6 @@
 // The settings of a node (paper 01, "Settings of a node"): S, and 16 domains.
 ghost use Rattle.std.specs.Prelude.{◌≡◌};
-ghost use Rattle.settings.specs.Node.{allGood, verdictNumber, judgedOf};
+ghost use Rattle.settings.specs.Node.{all_good, verdict_number, judged_of};
 
 use crate::DomainSettings;
 use crate::ranges::is_good;
@@ -23,7 +23,7 @@ pub enum Verdict {
 impl Verdict {
     // The paper's number.
     pub fn number(self) -> u8
-        ensures { result ≡ verdictNumber self }
+        ensures { result ≡ verdict_number self }
     {
         match self {
             Verdict::Good => 0,
@@ -42,7 +42,7 @@ impl NodeSettings {
 
     // Good, or refused by 14 where S or one domain is out of range.
     pub fn judge(self) -> Verdict
-        ensures { result ≡ judgedOf self }
+        ensures { result ≡ judged_of self }
     {
         if self.syncs_per_cycle < NodeSettings::SYNCS_PER_CYCLE_MIN {
             return Verdict::Refused(Refusal::Settings);
@@ -60,7 +60,7 @@ impl NodeSettings {
 }
 
 fn all_good(domains: [DomainSettings; NodeSettings::DOMAINS]) -> bool
-    ensures { result ≡ allGood domains }
+    ensures { result ≡ all_good domains }
 {
     let mut d = 0;
     while d < NodeSettings::DOMAINS {

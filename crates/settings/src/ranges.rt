@@ -1,13 +1,13 @@
 // The ranges of one domain's settings (paper 01, "Settings of a node"): what is good for each role. A role's
 // settings are read only for that role, an absent domain's not at all, so junk there is never refused.
 ghost use Rattle.std.specs.Prelude.{◌≡◌};
-ghost use Rattle.settings.specs.Ranges.{isGood, leapsGood, slaveGood, masterGood};
+ghost use Rattle.settings.specs.Ranges.{is_good, leaps_good, slave_good, master_good};
 
 use crate::{DomainSettings, Role};
 
 // Whether they are in range, as far as the role has them read.
 pub fn is_good(settings: DomainSettings) -> bool
-    ensures { result ≡ isGood settings }
+    ensures { result ≡ is_good settings }
 {
     let role = settings.role;
     match role {
@@ -18,7 +18,7 @@ pub fn is_good(settings: DomainSettings) -> bool
 }
 
 fn slave_good(settings: DomainSettings) -> bool
-    ensures { result ≡ slaveGood settings }
+    ensures { result ≡ slave_good settings }
 {
     if settings.jump_width < DomainSettings::JUMP_WIDTH_MIN {
         return false;
@@ -46,7 +46,7 @@ fn slave_good(settings: DomainSettings) -> bool
 
 // The leap thresholds, and the count that clears a leap bit.
 fn leaps_good(settings: DomainSettings) -> bool
-    ensures { result ≡ leapsGood settings }
+    ensures { result ≡ leaps_good settings }
 {
     if DomainSettings::THRESHOLD_MAX < settings.future_threshold {
         return false;
@@ -58,7 +58,7 @@ fn leaps_good(settings: DomainSettings) -> bool
 }
 
 fn master_good(settings: DomainSettings) -> bool
-    ensures { result ≡ masterGood settings }
+    ensures { result ≡ master_good settings }
 {
     let confirmation_time = settings.confirmation_time as u64;
     if settings.period < DomainSettings::PERIOD_MIN {

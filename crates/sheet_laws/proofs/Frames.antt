@@ -8,19 +8,19 @@ use mathlib.Core.List.{List}
 use native.Mathlib.Omega.{arith}
 use lib.Dec.{eqb}
 use lib.IntN.{ℤ, pos, negsuc, sub_ℕ}
-use Rattle.promise.proofs.Tests.{either, either-told, both}
+use Rattle.promise.proofs.Tests.{either, either_told, both}
 use Rattle.clock.specs.declared.reading.VirtualLocalTime.{VirtualLocalTime}
 use Rattle.clock.specs.declared.base.TimeBase.{TimeBase}
 use Rattle.clock.specs.declared.base.Held.{Held}
 use Rattle.clock.specs.declared.base.Held.TheVariants.{Unset, Set}
-use Rattle.clock.specs.Time.{nanosecondsOf}
-use Rattle.clock.specs.Base.{timeAt}
+use Rattle.clock.specs.Time.{nanoseconds_of}
+use Rattle.clock.specs.Base.{time_at}
 use Rattle.clock.specs.Difference.{held}
 use Rattle.frame.specs.declared.values.Sync.{Sync}
 use Rattle.frame.specs.declared.values.Fup.{Fup}
 use Rattle.frame.specs.declared.values.Frame.{Frame}
 use Rattle.frame.specs.declared.values.Frame.TheVariants.{Sync as sync, Fup as fup}
-use Rattle.frame.specs.Values.{domainIn}
+use Rattle.frame.specs.Values.{domain_in}
 use Rattle.frame_read.specs.declared.Read.{Read}
 use Rattle.frame_read.specs.declared.Read.TheVariants.{Values, LengthNot8, NoSuchType}
 use Rattle.frame_read.specs.Read.{read_of}
@@ -30,31 +30,31 @@ use Rattle.domain.specs.declared.Domain.{Domain}
 use Rattle.slave_counter.specs.declared.RowCheck.{RowCheck}
 use Rattle.slave_counter.specs.declared.RowCheck.TheVariants.{NotGood, Joins, Complete}
 use Rattle.slave_pair.specs.declared.joining.Joined.{Joined}
-use Rattle.slave_pair.specs.declared.joining.Joined.TheVariants.{With, Refused as not-joined}
-use Rattle.slave_pair.specs.Join.{joinedOf}
+use Rattle.slave_pair.specs.declared.joining.Joined.TheVariants.{With, Refused as not_joined}
+use Rattle.slave_pair.specs.Join.{joined_of}
 use Rattle.slave_answer.specs.declared.FrameAnswer.{FrameAnswer}
 use Rattle.slave_answer.specs.declared.FrameStep.{FrameStep}
-use Rattle.slave_sync.specs.Sync.{checkFor, syncAs}
-use Rattle.slave_fup.specs.Fup.{updateIn, fupAs}
-use Rattle.slave_update.specs.Update.{newBase}
+use Rattle.slave_sync.specs.Sync.{check_for, sync_as}
+use Rattle.slave_fup.specs.Fup.{update_in, fup_as}
+use Rattle.slave_update.specs.Update.{new_base}
 use Rattle.slave_frame.specs.Step.{kind_of}
 use Rattle.admission.specs.declared.Needed.TheVariants.{Slave as slave}
 use Rattle.admission.specs.declared.frames.FrameAdmission.{FrameAdmission}
 use Rattle.admission.specs.declared.frames.FrameAdmission.TheVariants.{Admitted, Refused}
-use Rattle.admission.specs.Reading.{isGoodReading}
-use Rattle.admission.specs.Admission.{isIn, isFor}
-use Rattle.admission.specs.FrameAdmission.{readFor, frameAdmitted}
-use Rattle.admission.proofs.Laws.{slave-admitted}
-use Rattle.call_frame.specs.FrameCall.{frameCallAs, frameCallOf}
+use Rattle.admission.specs.Reading.{is_good_reading}
+use Rattle.admission.specs.Admission.{is_in, is_for}
+use Rattle.admission.specs.FrameAdmission.{read_for, frame_admitted}
+use Rattle.admission.proofs.Laws.{slave_admitted}
+use Rattle.call_frame.specs.FrameCall.{frame_call_as, frame_call_of}
 use Rattle.node_laws.specs.Leaps.{moves_of}
 use Rattle.sheet_sum.specs.Sum.{Within64, AllWithin64}
-use Rattle.sheet_tally.specs.Tally.{columns, columnOf}
+use Rattle.sheet_tally.specs.Tally.{columns, column_of}
 
 -- ---- its D
 
-held-within : (z : ℤ) → Within64 (held z)
-held-within (pos m) = let top : min m (2 ^ 63 - 1) < 2 ^ 63 = omega arith in top
-held-within (negsuc m) = let top : min m (2 ^ 63 - 1) < 2 ^ 63 = omega arith in top
+held_within : (z : ℤ) → Within64 (held z)
+held_within (pos m) = let top : min m (2 ^ 63 - 1) < 2 ^ 63 = omega arith in top
+held_within (negsuc m) = let top : min m (2 ^ 63 - 1) < 2 ^ 63 = omega arith in top
 
 module _ (d : Domain) (kept t : VirtualLocalTime) where
   abbrev AnswerWithin : FrameAnswer → Type 0
@@ -63,50 +63,50 @@ module _ (d : Domain) (kept t : VirtualLocalTime) where
   abbrev StepWithin : FrameStep → Type 0
   StepWithin s = AnswerWithin s.answer
 
-  update-within : (b : Held) (new : TimeBase) → AnswerWithin (updateIn d b new).answer
-  update-within Unset new = tt
-  update-within (Set old) new = (
-    held-within (sub_ℕ (nanosecondsOf new.time) (nanosecondsOf (timeAt old new.at))),
+  update_within : (b : Held) (new : TimeBase) → AnswerWithin (update_in d b new).answer
+  update_within Unset new = tt
+  update_within (Set old) new = (
+    held_within (sub_ℕ (nanoseconds_of new.time) (nanoseconds_of (time_at old new.at))),
     tt,
   )
 
-  fup-within : (j : Joined) (f : Fup) → StepWithin (fupAs j d f)
-  fup-within (not-joined refusal) f = tt
-  fup-within (With p) f = update-within d.base (newBase p f)
+  fup_within : (j : Joined) (f : Fup) → StepWithin (fup_as j d f)
+  fup_within (not_joined refusal) f = tt
+  fup_within (With p) f = update_within d.base (new_base p f)
 
-  sync-within : (c : RowCheck) (s : Sync) → StepWithin (syncAs c d t s)
-  sync-within (NotGood row) s = tt
-  sync-within (Joins row) s = tt
-  sync-within (Complete row) s = tt
+  sync_within_lem : (c : RowCheck) (s : Sync) → StepWithin (sync_as c d t s)
+  sync_within_lem (NotGood row) s = tt
+  sync_within_lem (Joins row) s = tt
+  sync_within_lem (Complete row) s = tt
 
-  kind-within : (values : Frame) → StepWithin (kind_of d t values)
-  kind-within (sync s) = sync-within (checkFor d t s) s
-  kind-within (fup f) = fup-within (joinedOf d.settings.follow_up_time d.pairing t f) f
+  kind_within : (values : Frame) → StepWithin (kind_of d t values)
+  kind_within (sync s) = sync_within_lem (check_for d t s) s
+  kind_within (fup f) = fup_within (joined_of d.settings.follow_up_time d.pairing t f) f
 
-  call-within : (a : FrameAdmission) (bytes : List ℕ) → AnswerWithin (frameCallAs a d kept t bytes).answer
-  call-within (Refused refusal) bytes = tt
-  call-within (Admitted values) bytes =
-      either StepWithin (is_taken d.settings.mode d.settings.ids bytes) (kind-within values) tt
+  call_within : (a : FrameAdmission) (bytes : List ℕ) → AnswerWithin (frame_call_as a d kept t bytes).answer
+  call_within (Refused refusal) bytes = tt
+  call_within (Admitted values) bytes =
+      either StepWithin (is_taken d.settings.mode d.settings.ids bytes) (kind_within values) tt
 
-  pub frame-within : (bytes : List ℕ) → AllWithin64 (moves_of (frameCallOf d kept t bytes).answer)
-  frame-within bytes = call-within (frameAdmitted kept t d.number d.settings.role bytes) bytes
+  pub frame_within : (bytes : List ℕ) → AllWithin64 (moves_of (frame_call_of d kept t bytes).answer)
+  frame_within bytes = call_within (frame_admitted kept t d.number d.settings.role bytes) bytes
 
 -- ---- whose it is: 1 to 4 are tested first, and no column counts them
 
 module _ (d : Domain) (kept t : VirtualLocalTime) (bytes : List ℕ) where
   abbrev IsSlave : FrameAdmission → Type 0
-  IsSlave a = columnOf (frameCallAs a d kept t bytes).answer < columns → d.settings.role ≡ Slave
+  IsSlave a = column_of (frame_call_as a d kept t bytes).answer < columns → d.settings.role ≡ Slave
 
-  read-slave : (r : Read) → IsSlave (readFor r d.number d.settings.role)
-  read-slave LengthNot8 = λ h. absurd (omega (arith, h))
-  read-slave NoSuchType = λ h. absurd (omega (arith, h))
-  read-slave (Values values) =
-      either-told IsSlave (isFor d.number d.settings.role (domainIn values) slave)
+  read_slave : (r : Read) → IsSlave (read_for r d.number d.settings.role)
+  read_slave LengthNot8 = λ h. absurd (omega (arith, h))
+  read_slave NoSuchType = λ h. absurd (omega (arith, h))
+  read_slave (Values values) =
+      either_told IsSlave (is_for d.number d.settings.role (domain_in values) slave)
       (λ for h.
-      slave-admitted d.settings.role
-      (both (eqb (domainIn values) d.number) (isIn d.settings.role slave) for).1)
+      slave_admitted d.settings.role
+      (both (eqb (domain_in values) d.number) (is_in d.settings.role slave) for).1)
       (λ no h. absurd (omega (arith, h)))
 
-  pub frame-slave : columnOf (frameCallOf d kept t bytes).answer < columns → d.settings.role ≡ Slave
-  frame-slave =
-      either-told IsSlave (isGoodReading kept t) (λ good. read-slave (read_of bytes)) (λ no h. absurd (omega (arith, h)))
+  pub frame_slave : column_of (frame_call_of d kept t bytes).answer < columns → d.settings.role ≡ Slave
+  frame_slave =
+      either_told IsSlave (is_good_reading kept t) (λ good. read_slave (read_of bytes)) (λ no h. absurd (omega (arith, h)))

@@ -17,42 +17,42 @@ use lib.ListN.{length, length-set, length-append}
 use borrow.Author.Tests.{eqb-true}
 use Rattle.promise.proofs.Tests.{either}
 use Rattle.settings.specs.Node.{places}
-use Rattle.domain.specs.Records.{recordAt}
+use Rattle.domain.specs.Records.{record_at}
 use Rattle.slave_answer.specs.declared.FrameAnswer.{FrameAnswer}
 use Rattle.slave_answer.specs.declared.FrameAnswer.TheVariants.{SyncTaken, FirstTaken, Updated, Refused}
-use Rattle.frame_read.specs.Read.{namedDomain}
+use Rattle.frame_read.specs.Read.{named_domain}
 use Rattle.node.specs.declared.Node.{Node}
-use Rattle.node.specs.Frame.{addressedBy, nodeFrameOf}
-use Rattle.node_call.specs.Calls.{Call, frame, read, set, cycle, confirm, nodeAfter}
-use Rattle.node_laws.specs.Leaps.{moves_of, movesBy, movesIn}
+use Rattle.node.specs.Frame.{addressed_by, node_frame_of}
+use Rattle.node_call.specs.Calls.{Call, frame, read, set, cycle, confirm, node_after}
+use Rattle.node_laws.specs.Leaps.{moves_of, moves_by, moves_in}
 use Rattle.sheet_sum.specs.Sum.{AllWithin64}
 use Rattle.sheet_tally.specs.declared.Tally.{Tally}
 use Rattle.sheet_tally.specs.declared.entry.Entry.{Entry}
 use Rattle.sheet_tally.specs.declared.entry.Entry.TheVariants.{Of, Other}
 use Rattle.sheet_tally.specs.declared.sheet.Sheet.{Sheet}
-use Rattle.sheet_tally.specs.Tally.{columns, columnOf, noTally, countedOf}
-use Rattle.sheet_tally.specs.Sheet.{tallyAt, sheetWith}
-use Rattle.sheet_laws.specs.Calls.{entryIn, sheetAfter}
-use Rattle.sheet_laws.specs.Heard.{heardBy, heardIn, differencesIn}
+use Rattle.sheet_tally.specs.Tally.{columns, column_of, no_tally, counted_of}
+use Rattle.sheet_tally.specs.Sheet.{tally_at, sheet_with}
+use Rattle.sheet_laws.specs.Calls.{entry_in, sheet_after}
+use Rattle.sheet_laws.specs.Heard.{heard_by, heard_in, differences_in}
 use Rattle.sheet_laws.proofs.Lists.{at_set}
-use Rattle.sheet_laws.proofs.Tally.{tallyAll}
-use Rattle.sheet_laws.proofs.Frames.{frame-within}
+use Rattle.sheet_laws.proofs.Tally.{tally_all}
+use Rattle.sheet_laws.proofs.Frames.{frame_within}
 
 -- ---- sixteen tallies
 
-pub sixteen-kept : (s : Sheet) (e : Entry) → length (sheetWith s e).tallies ≡ length s.tallies
-sixteen-kept s (Of named answer) = length-set s.tallies (named % places) _
-sixteen-kept s Other = refl
+pub sixteen_kept : (s : Sheet) (e : Entry) → length (sheet_with s e).tallies ≡ length s.tallies
+sixteen_kept s (Of named answer) = length-set s.tallies (named % places) _
+sixteen_kept s Other = refl
 
 -- ---- one record
 
-with-one :
+with_one :
     (s : Sheet) (i named : ℕ) (answer : FrameAnswer) → length s.tallies ≡ places →
     (counted : Bool) → let at = named % places in
-    tallyAt (sheetWith s (cond counted (Of named answer) Other)).tallies i
-    ≡ tallyAll (tallyAt s.tallies i) (cond (eqb at i && counted) (answer ∷ []) [])
-with-one s i named answer sixteen true =
-    at_set s.tallies at i (countedOf (tallyAt s.tallies at) answer) noTally there
+    tally_at (sheet_with s (cond counted (Of named answer) Other)).tallies i
+    ≡ tally_all (tally_at s.tallies i) (cond (eqb at i && counted) (answer ∷ []) [])
+with_one s i named answer sixteen true =
+    at_set s.tallies at i (counted_of (tally_at s.tallies at) answer) no_tally there
     ∙ go (eqb at i) (eqb-true at i)
   where
     at : ℕ
@@ -63,134 +63,134 @@ with-one s i named answer sixteen true =
 
     go :
         (b : Bool) → (b ≡ true → at ≡ i) →
-        cond b (countedOf (tallyAt s.tallies at) answer) (tallyAt s.tallies i)
-        ≡ tallyAll (tallyAt s.tallies i) (cond (b && true) (answer ∷ []) [])
-    go true same = ap (λ (j : ℕ). countedOf (tallyAt s.tallies j) answer) (same refl)
+        cond b (counted_of (tally_at s.tallies at) answer) (tally_at s.tallies i)
+        ≡ tally_all (tally_at s.tallies i) (cond (b && true) (answer ∷ []) [])
+    go true same = ap (λ (j : ℕ). counted_of (tally_at s.tallies j) answer) (same refl)
     go false same = refl
-with-one s i named answer sixteen false = go (eqb (named % places) i)
+with_one s i named answer sixteen false = go (eqb (named % places) i)
   where
-    go : (b : Bool) → tallyAt s.tallies i ≡ tallyAll (tallyAt s.tallies i) (cond (b && false) (answer ∷ []) [])
+    go : (b : Bool) → tally_at s.tallies i ≡ tally_all (tally_at s.tallies i) (cond (b && false) (answer ∷ []) [])
     go true = refl
     go false = refl
 
-one-heard :
+one_heard :
     (i : ℕ) (n : Node) (s : Sheet) (c : Call) → length s.tallies ≡ places →
-    tallyAt (sheetWith s (entryIn n c)).tallies i ≡ tallyAll (tallyAt s.tallies i) (heardBy i n c)
-one-heard i n s (frame t bytes) sixteen =
-    let answer = (nodeFrameOf n t bytes).answer in
-    with-one s i (namedDomain bytes) answer sixteen (ltb (columnOf answer) columns)
-one-heard i n s (read domain t) sixteen = refl
-one-heard i n s (set domain t seconds ns) sixteen = refl
-one-heard i n s (cycle t out) sixteen = refl
-one-heard i n s (confirm domain t counter out) sixteen = refl
+    tally_at (sheet_with s (entry_in n c)).tallies i ≡ tally_all (tally_at s.tallies i) (heard_by i n c)
+one_heard i n s (frame t bytes) sixteen =
+    let answer = (node_frame_of n t bytes).answer in
+    with_one s i (named_domain bytes) answer sixteen (ltb (column_of answer) columns)
+one_heard i n s (read domain t) sixteen = refl
+one_heard i n s (set domain t seconds ns) sixteen = refl
+one_heard i n s (cycle t out) sixteen = refl
+one_heard i n s (confirm domain t counter out) sixteen = refl
 
 -- ---- all of them
 
-all_append : (t : Tally) (xs ys : List FrameAnswer) → tallyAll t (xs ++ ys) ≡ tallyAll (tallyAll t xs) ys
+all_append : (t : Tally) (xs ys : List FrameAnswer) → tally_all t (xs ++ ys) ≡ tally_all (tally_all t xs) ys
 all_append t [] ys = refl
-all_append t (x ∷ xs) ys = all_append (countedOf t x) xs ys
+all_append t (x ∷ xs) ys = all_append (counted_of t x) xs ys
 
-pub heard-tally :
+pub heard_tally :
     (i : ℕ) (n : Node) (s : Sheet) (cs : List Call) → length s.tallies ≡ places →
-    tallyAt (sheetAfter n s cs).tallies i ≡ tallyAll (tallyAt s.tallies i) (heardIn i n cs)
-heard-tally i n s [] sixteen = refl
-heard-tally i n s (c ∷ rest) sixteen =
-    heard-tally i (nodeAfter n c) (sheetWith s (entryIn n c)) rest (sixteen-kept s (entryIn n c) ∙ sixteen)
-    ∙ ap (λ (t : Tally). tallyAll t (heardIn i (nodeAfter n c) rest)) (one-heard i n s c sixteen)
-    ∙ sym (all_append (tallyAt s.tallies i) (heardBy i n c) (heardIn i (nodeAfter n c) rest))
+    tally_at (sheet_after n s cs).tallies i ≡ tally_all (tally_at s.tallies i) (heard_in i n cs)
+heard_tally i n s [] sixteen = refl
+heard_tally i n s (c ∷ rest) sixteen =
+    heard_tally i (node_after n c) (sheet_with s (entry_in n c)) rest (sixteen_kept s (entry_in n c) ∙ sixteen)
+    ∙ ap (λ (t : Tally). tally_all t (heard_in i (node_after n c) rest)) (one_heard i n s c sixteen)
+    ∙ sym (all_append (tally_at s.tallies i) (heard_by i n c) (heard_in i (node_after n c) rest))
 
 -- ---- their D
 
-differences-append : (xs ys : List FrameAnswer) → differencesIn (xs ++ ys) ≡ differencesIn xs ++ differencesIn ys
-differences-append [] ys = refl
-differences-append (x ∷ xs) ys =
-    ap (λ (ds : List ℤ). moves_of x ++ ds) (differences-append xs ys)
-    ∙ sym (append_assoc (moves_of x) (differencesIn xs) (differencesIn ys))
+differences_append : (xs ys : List FrameAnswer) → differences_in (xs ++ ys) ≡ differences_in xs ++ differences_in ys
+differences_append [] ys = refl
+differences_append (x ∷ xs) ys =
+    ap (λ (ds : List ℤ). moves_of x ++ ds) (differences_append xs ys)
+    ∙ sym (append_assoc (moves_of x) (differences_in xs) (differences_in ys))
 
 -- what no column counts has no D
-counted-moves :
-    (answer : FrameAnswer) → differencesIn (cond (ltb (columnOf answer) columns) (answer ∷ []) []) ≡ moves_of answer
-counted-moves SyncTaken = refl
-counted-moves FirstTaken = refl
-counted-moves (Updated d) = refl
-counted-moves (Refused refusal) =
-    either (λ (answers : List FrameAnswer). differencesIn answers ≡ []) (ltb (columnOf (Refused refusal)) columns)
+counted_moves :
+    (answer : FrameAnswer) → differences_in (cond (ltb (column_of answer) columns) (answer ∷ []) []) ≡ moves_of answer
+counted_moves SyncTaken = refl
+counted_moves FirstTaken = refl
+counted_moves (Updated d) = refl
+counted_moves (Refused refusal) =
+    either (λ (answers : List FrameAnswer). differences_in answers ≡ []) (ltb (column_of (Refused refusal)) columns)
     refl refl
 
-moves-one : (i : ℕ) (n : Node) (c : Call) → differencesIn (heardBy i n c) ≡ movesBy i n c
-moves-one i n (frame t bytes) = go (eqb (addressedBy bytes) i)
+moves_one : (i : ℕ) (n : Node) (c : Call) → differences_in (heard_by i n c) ≡ moves_by i n c
+moves_one i n (frame t bytes) = go (eqb (addressed_by bytes) i)
   where
     answer : FrameAnswer
-    answer = (nodeFrameOf n t bytes).answer
+    answer = (node_frame_of n t bytes).answer
 
     go :
         (b : Bool) →
-        differencesIn (cond (b && ltb (columnOf answer) columns) (answer ∷ []) []) ≡ cond b (moves_of answer) []
-    go true = counted-moves answer
+        differences_in (cond (b && ltb (column_of answer) columns) (answer ∷ []) []) ≡ cond b (moves_of answer) []
+    go true = counted_moves answer
     go false = refl
-moves-one i n (read domain t) = refl
-moves-one i n (set domain t s ns) = refl
-moves-one i n (cycle t out) = refl
-moves-one i n (confirm domain t counter out) = refl
+moves_one i n (read domain t) = refl
+moves_one i n (set domain t s ns) = refl
+moves_one i n (cycle t out) = refl
+moves_one i n (confirm domain t counter out) = refl
 
-pub heard-moves : (i : ℕ) (n : Node) (cs : List Call) → differencesIn (heardIn i n cs) ≡ movesIn i n cs
-heard-moves i n [] = refl
-heard-moves i n (c ∷ rest) =
-    differences-append (heardBy i n c) (heardIn i (nodeAfter n c) rest)
-    ∙ ap (λ (ds : List ℤ). ds ++ differencesIn (heardIn i (nodeAfter n c) rest)) (moves-one i n c)
-    ∙ ap (λ (ds : List ℤ). movesBy i n c ++ ds) (heard-moves i (nodeAfter n c) rest)
+pub heard_moves : (i : ℕ) (n : Node) (cs : List Call) → differences_in (heard_in i n cs) ≡ moves_in i n cs
+heard_moves i n [] = refl
+heard_moves i n (c ∷ rest) =
+    differences_append (heard_by i n c) (heard_in i (node_after n c) rest)
+    ∙ ap (λ (ds : List ℤ). ds ++ differences_in (heard_in i (node_after n c) rest)) (moves_one i n c)
+    ∙ ap (λ (ds : List ℤ). moves_by i n c ++ ds) (heard_moves i (node_after n c) rest)
 
 -- ---- no more of them than calls
 
-one-few : (i : ℕ) (n : Node) (c : Call) → length (heardBy i n c) ≤ 1
-one-few i n (frame t bytes) =
+one_few : (i : ℕ) (n : Node) (c : Call) → length (heard_by i n c) ≤ 1
+one_few i n (frame t bytes) =
     either (λ (answers : List FrameAnswer). length answers ≤ 1)
-    (eqb (addressedBy bytes) i && ltb (columnOf (nodeFrameOf n t bytes).answer) columns)
+    (eqb (addressed_by bytes) i && ltb (column_of (node_frame_of n t bytes).answer) columns)
     (omega arith) (omega arith)
-one-few i n (read domain t) = omega arith
-one-few i n (set domain t s ns) = omega arith
-one-few i n (cycle t out) = omega arith
-one-few i n (confirm domain t counter out) = omega arith
+one_few i n (read domain t) = omega arith
+one_few i n (set domain t s ns) = omega arith
+one_few i n (cycle t out) = omega arith
+one_few i n (confirm domain t counter out) = omega arith
 
-pub heard-few : (i : ℕ) (n : Node) (cs : List Call) → length (heardIn i n cs) ≤ length cs
-heard-few i n [] = omega arith
-heard-few i n (c ∷ rest) =
+pub heard_few : (i : ℕ) (n : Node) (cs : List Call) → length (heard_in i n cs) ≤ length cs
+heard_few i n [] = omega arith
+heard_few i n (c ∷ rest) =
     omega (
       arith,
-      one-few i n c,
-      heard-few i (nodeAfter n c) rest,
-      length-append (heardBy i n c) (heardIn i (nodeAfter n c) rest),
+      one_few i n c,
+      heard_few i (node_after n c) rest,
+      length-append (heard_by i n c) (heard_in i (node_after n c) rest),
     )
 
-differences-few : (answers : List FrameAnswer) → length (differencesIn answers) ≤ length answers
-differences-few [] = omega arith
-differences-few (SyncTaken ∷ rest) = omega (arith, differences-few rest)
-differences-few (FirstTaken ∷ rest) = omega (arith, differences-few rest)
-differences-few (Updated d ∷ rest) = omega (arith, differences-few rest)
-differences-few (Refused refusal ∷ rest) = omega (arith, differences-few rest)
+differences_few : (answers : List FrameAnswer) → length (differences_in answers) ≤ length answers
+differences_few [] = omega arith
+differences_few (SyncTaken ∷ rest) = omega (arith, differences_few rest)
+differences_few (FirstTaken ∷ rest) = omega (arith, differences_few rest)
+differences_few (Updated d ∷ rest) = omega (arith, differences_few rest)
+differences_few (Refused refusal ∷ rest) = omega (arith, differences_few rest)
 
-pub moves-few : (i : ℕ) (n : Node) (cs : List Call) → length (movesIn i n cs) ≤ length cs
-moves-few i n cs =
-    let same = ap length (heard-moves i n cs) in
-    omega (arith, same, heard-few i n cs, differences-few (heardIn i n cs))
+pub moves_few : (i : ℕ) (n : Node) (cs : List Call) → length (moves_in i n cs) ≤ length cs
+moves_few i n cs =
+    let same = ap length (heard_moves i n cs) in
+    omega (arith, same, heard_few i n cs, differences_few (heard_in i n cs))
 
 -- ---- and each of 64 signed bits
 
-both-within : (xs ys : List ℤ) → AllWithin64 xs → AllWithin64 ys → AllWithin64 (xs ++ ys)
-both-within [] ys h k = k
-both-within (x ∷ xs) ys h k = (h.0, both-within xs ys h.1 k)
+both_within : (xs ys : List ℤ) → AllWithin64 xs → AllWithin64 ys → AllWithin64 (xs ++ ys)
+both_within [] ys h k = k
+both_within (x ∷ xs) ys h k = (h.0, both_within xs ys h.1 k)
 
-one-within : (i : ℕ) (n : Node) (c : Call) → AllWithin64 (movesBy i n c)
-one-within i n (frame t bytes) =
-    either AllWithin64 (eqb (addressedBy bytes) i)
-    (frame-within (recordAt n.domains (addressedBy bytes)) n.kept t bytes) tt
-one-within i n (read domain t) = tt
-one-within i n (set domain t s ns) = tt
-one-within i n (cycle t out) = tt
-one-within i n (confirm domain t counter out) = tt
+one_within : (i : ℕ) (n : Node) (c : Call) → AllWithin64 (moves_by i n c)
+one_within i n (frame t bytes) =
+    either AllWithin64 (eqb (addressed_by bytes) i)
+    (frame_within (record_at n.domains (addressed_by bytes)) n.kept t bytes) tt
+one_within i n (read domain t) = tt
+one_within i n (set domain t s ns) = tt
+one_within i n (cycle t out) = tt
+one_within i n (confirm domain t counter out) = tt
 
-pub moves-within : (i : ℕ) (n : Node) (cs : List Call) → AllWithin64 (movesIn i n cs)
-moves-within i n [] = tt
-moves-within i n (c ∷ rest) =
-    both-within (movesBy i n c) (movesIn i (nodeAfter n c) rest) (one-within i n c)
-    (moves-within i (nodeAfter n c) rest)
+pub moves_within : (i : ℕ) (n : Node) (cs : List Call) → AllWithin64 (moves_in i n cs)
+moves_within i n [] = tt
+moves_within i n (c ∷ rest) =
+    both_within (moves_by i n c) (moves_in i (node_after n c) rest) (one_within i n c)
+    (moves_within i (node_after n c) rest)

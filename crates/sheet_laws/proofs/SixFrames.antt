@@ -11,23 +11,23 @@ use mathlib.Core.List.{List, [], ◌∷◌}
 use lib.IntN.{pos, negsuc}
 use Rattle.clock.specs.declared.reading.VirtualLocalTime.{VirtualLocalTime}
 use Rattle.text.specs.Text.{spelled}
-use Rattle.bench_settings.specs.Bench.{benchWith}
+use Rattle.bench_settings.specs.Bench.{bench_with}
 use Rattle.node.specs.declared.Node.{Node}
-use Rattle.node.specs.New.{newOf}
-use Rattle.node_call.specs.Calls.{Call, frame, nodeAfterAll}
-use Rattle.node_laws.specs.Leaps.{movesIn}
+use Rattle.node.specs.New.{new_of}
+use Rattle.node_call.specs.Calls.{Call, frame, node_after_all}
+use Rattle.node_laws.specs.Leaps.{moves_in}
 use Rattle.sheet_sum.specs.Sum.{sum_of}
 use Rattle.sheet_tally.specs.declared.spread.Spread.TheVariants.{Of}
-use Rattle.sheet_tally.specs.Sheet.{noSheet}
-use Rattle.sheet_line.specs.Line.{sheetText}
-use Rattle.sheet_laws.specs.Calls.{sheetAfter}
-use Rattle.sheet_laws.specs.Sheets.{tallyIn}
+use Rattle.sheet_tally.specs.Sheet.{no_sheet}
+use Rattle.sheet_line.specs.Line.{sheet_text}
+use Rattle.sheet_laws.specs.Calls.{sheet_after}
+use Rattle.sheet_laws.specs.Sheets.{tally_in}
 
 abbrev at : ℕ → VirtualLocalTime
 at t = record { 0 = t }
 
 abbrev bench : Node
-bench = (newOf (benchWith 2)).node
+bench = (new_of (bench_with 2)).node
 
 abbrev calls : List Call
 calls =
@@ -39,14 +39,14 @@ calls =
     ∷ frame (at 3000000001) (0x18 ∷ 0 ∷ 0x12 ∷ 0 ∷ 0 ∷ 0 ∷ 0 ∷ 2 ∷ [])
     ∷ []
 
-moves-met : movesIn 1 bench calls ≡ negsuc 4 ∷ pos 7 ∷ []
-moves-met = refl
+moves_met : moves_in 1 bench calls ≡ negsuc 4 ∷ pos 7 ∷ []
+moves_met = refl
 
-spread-met : (tallyIn 1 bench calls).spread ≡ Of (negsuc 4) (pos 7)
-spread-met = refl
+spread_met : (tally_in 1 bench calls).spread ≡ Of (negsuc 4) (pos 7)
+spread_met = refl
 
-sum-met : sum_of (tallyIn 1 bench calls).sum ≡ pos 2
-sum-met = refl
+sum_met : sum_of (tally_in 1 bench calls).sum ≡ pos 2
+sum_met = refl
 
 -- ---- the text, in bytes
 abbrev printed : List ℕ
@@ -54,6 +54,6 @@ printed =
     49 ∷ 32 ∷ 51 ∷ 32 ∷ 51 ∷ 32 ∷ 48 ∷ 32 ∷ 48 ∷ 32 ∷ 48 ∷ 32 ∷ 48 ∷ 32 ∷ 48 ∷ 32 ∷ 45 ∷ 53 ∷ 32 ∷ 55 ∷ 32 ∷
     50 ∷ 10 ∷ 111 ∷ 116 ∷ 104 ∷ 101 ∷ 114 ∷ 32 ∷ 48 ∷ 10 ∷ []
 
-line-met : sheetText (nodeAfterAll bench calls) (sheetAfter bench noSheet calls) ≡ printed
+line_met : sheet_text (node_after_all bench calls) (sheet_after bench no_sheet calls) ≡ printed
 unfolding spelled
-line-met = refl
+line_met = refl

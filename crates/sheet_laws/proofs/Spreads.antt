@@ -12,11 +12,11 @@ use native.Mathlib.Omega.{arith}
 use lib.Dec.{T, ltb→lt, le→leb}
 use lib.IntN.{ℤ, pos, negsuc}
 use lib.Signed.{lt_z, le_z, ◌≤ℤ◌, ◌<ℤ◌, le_z_yes, lt_z_yes, lt_z_no, ≤ℤ_refl, <ℤ-≤ℤ_trans, clash_ℤ}
-use Rattle.promise.proofs.Tests.{either-told}
+use Rattle.promise.proofs.Tests.{either_told}
 use Rattle.sheet_tally.specs.declared.spread.Spread.TheVariants.{None, Of}
 use Rattle.sheet_tally.specs.Spread.{lesser, greater}
 use Rattle.sheet_laws.specs.Heard.{IsIn, IsLeast, IsGreatest}
-use Rattle.sheet_laws.proofs.Tally.{spreadAll}
+use Rattle.sheet_laws.proofs.Tally.{spread_all}
 
 -- ---- the order of numbers with a sign
 
@@ -29,21 +29,21 @@ below (negsuc a) (negsuc b) h = le→leb b a (le_of_lt (ltb→lt b a h))
 less : (a b : ℤ) → lt_z a b ≡ true → a <ℤ b
 less a b e = lt_z_yes (subst T (sym e) tt)
 
-not-less : (a b : ℤ) → lt_z a b ≡ false → b ≤ℤ a
-not-less a b e = lt_z_no (subst (λ (t : Bool). T (not t)) (sym e) tt)
+not_less : (a b : ℤ) → lt_z a b ≡ false → b ≤ℤ a
+not_less a b e = lt_z_no (subst (λ (t : Bool). T (not t)) (sym e) tt)
 
-less-le : (a b : ℤ) → lt_z a b ≡ true → a ≤ℤ b
-less-le a b e = le_z_yes (below a b (subst T (sym e) tt))
+less_le : (a b : ℤ) → lt_z a b ≡ true → a ≤ℤ b
+less_le a b e = le_z_yes (below a b (subst T (sym e) tt))
 
 either_way : (a b : ℤ) → (a <ℤ b) ⊎ (b ≤ℤ a)
 either_way a b = go (lt_z a b) refl
   where
     go : (t : Bool) → lt_z a b ≡ t → (a <ℤ b) ⊎ (b ≤ℤ a)
     go true e = inl (less a b e)
-    go false e = inr (not-less a b e)
+    go false e = inr (not_less a b e)
 
-≤ℤ-trans : (a b c : ℤ) → a ≤ℤ b → b ≤ℤ c → a ≤ℤ c
-≤ℤ-trans a b c h k = ⊎_elim (λ less. clash_ℤ (<ℤ-≤ℤ_trans less h) k) (λ le. le) (either_way c a)
+≤ℤ_trans : (a b c : ℤ) → a ≤ℤ b → b ≤ℤ c → a ≤ℤ c
+≤ℤ_trans a b c h k = ⊎_elim (λ less. clash_ℤ (<ℤ-≤ℤ_trans less h) k) (λ le. le) (either_way c a)
 
 -- ---- one number picked of two, which is not beyond either
 
@@ -58,15 +58,15 @@ abbrev picked : (ℤ → ℤ → ℤ) → ℤ → List ℤ → ℤ
 picked pick z [] = z
 picked pick z (d ∷ rest) = picked pick (pick d z) rest
 
-picked-in :
+picked_in :
     {before : ℤ → ℤ → Type 0} (pick : ℤ → ℤ → ℤ) → Picks pick before → (z : ℤ) (ds : List ℤ) →
     IsIn (picked pick z ds) (z ∷ ds)
-picked-in pick p z [] = inl refl
-picked-in pick p z (d ∷ rest) =
+picked_in pick p z [] = inl refl
+picked_in pick p z (d ∷ rest) =
     ⊎_elim
     (λ e. ⊎_elim (λ is. inr (inl (e ∙ is))) (λ is. inl (e ∙ is)) (p.one d z))
     (λ there. inr (inr there))
-    (picked-in pick p (pick d z) rest)
+    (picked_in pick p (pick d z) rest)
 
 picked_first :
     {before : ℤ → ℤ → Type 0} (pick : ℤ → ℤ → ℤ) → Picks pick before → (z : ℤ) (ds : List ℤ) (x : ℤ) →
@@ -83,57 +83,57 @@ picked_first {before} pick p z (d ∷ rest) x (inr (inr there)) = picked_first p
 
 -- ---- the lesser and the greater of two
 
-either-of : (b : Bool) (x y : ℤ) → (cond b x y ≡ x) ⊎ (cond b x y ≡ y)
-either-of true x y = inl refl
-either-of false x y = inr refl
+either_of : (b : Bool) (x y : ℤ) → (cond b x y ≡ x) ⊎ (cond b x y ≡ y)
+either_of true x y = inl refl
+either_of false x y = inr refl
 
-lesser-picks : Picks lesser (λ a b. a ≤ℤ b)
-lesser-picks =
+lesser_picks : Picks lesser (λ a b. a ≤ℤ b)
+lesser_picks =
     record {
       same = ≤ℤ_refl;
-      trans = ≤ℤ-trans;
-      one = λ a b. either-of (lt_z a b) a b;
-      first = λ a b. either-told (λ (z : ℤ). z ≤ℤ a) (lt_z a b) (λ e. ≤ℤ_refl a) (not-less a b);
-      second = λ a b. either-told (λ (z : ℤ). z ≤ℤ b) (lt_z a b) (less-le a b) (λ e. ≤ℤ_refl b);
+      trans = ≤ℤ_trans;
+      one = λ a b. either_of (lt_z a b) a b;
+      first = λ a b. either_told (λ (z : ℤ). z ≤ℤ a) (lt_z a b) (λ e. ≤ℤ_refl a) (not_less a b);
+      second = λ a b. either_told (λ (z : ℤ). z ≤ℤ b) (lt_z a b) (less_le a b) (λ e. ≤ℤ_refl b);
     }
 
-greater-picks : Picks greater (λ a b. b ≤ℤ a)
-greater-picks =
+greater_picks : Picks greater (λ a b. b ≤ℤ a)
+greater_picks =
     record {
       same = ≤ℤ_refl;
-      trans = λ a b c h k. ≤ℤ-trans c b a k h;
-      one = λ a b. either-of (lt_z b a) a b;
-      first = λ a b. either-told (λ (z : ℤ). a ≤ℤ z) (lt_z b a) (λ e. ≤ℤ_refl a) (not-less b a);
-      second = λ a b. either-told (λ (z : ℤ). b ≤ℤ z) (lt_z b a) (less-le b a) (λ e. ≤ℤ_refl b);
+      trans = λ a b c h k. ≤ℤ_trans c b a k h;
+      one = λ a b. either_of (lt_z b a) a b;
+      first = λ a b. either_told (λ (z : ℤ). a ≤ℤ z) (lt_z b a) (λ e. ≤ℤ_refl a) (not_less b a);
+      second = λ a b. either_told (λ (z : ℤ). b ≤ℤ z) (lt_z b a) (less_le b a) (λ e. ≤ℤ_refl b);
     }
 
 -- ---- a spread has both
 
-spread-from :
+spread_from :
     (least greatest : ℤ) (ds : List ℤ) →
-    spreadAll (Of least greatest) ds ≡ Of (picked lesser least ds) (picked greater greatest ds)
-spread-from least greatest [] = refl
-spread-from least greatest (d ∷ rest) = spread-from (lesser d least) (greater d greatest) rest
+    spread_all (Of least greatest) ds ≡ Of (picked lesser least ds) (picked greater greatest ds)
+spread_from least greatest [] = refl
+spread_from least greatest (d ∷ rest) = spread_from (lesser d least) (greater d greatest) rest
 
-pub none_of : (ds : List ℤ) → (spreadAll None ds ≡ None → ds ≡ []) × (ds ≡ [] → spreadAll None ds ≡ None)
+pub none_of : (ds : List ℤ) → (spread_all None ds ≡ None → ds ≡ []) × (ds ≡ [] → spread_all None ds ≡ None)
 none_of [] = (λ e. refl, λ e. refl)
 none_of (d ∷ rest) = (
-  λ e. let told = sym (spread-from d d rest) ∙ e in cc,
+  λ e. let told = sym (spread_from d d rest) ∙ e in cc,
   λ e. cc,
 )
 
-pub least-of : (ds : List ℤ) (least greatest : ℤ) → spreadAll None ds ≡ Of least greatest → IsLeast least ds
-least-of [] least greatest e = let never : ◌≡◌ {A = ℕ} 0 1 = cc in absurd (omega arith)
-least-of (d ∷ rest) least greatest e =
-    let told = sym (spread-from d d rest) ∙ e in
+pub least_of : (ds : List ℤ) (least greatest : ℤ) → spread_all None ds ≡ Of least greatest → IsLeast least ds
+least_of [] least greatest e = let never : ◌≡◌ {A = ℕ} 0 1 = cc in absurd (omega arith)
+least_of (d ∷ rest) least greatest e =
+    let told = sym (spread_from d d rest) ∙ e in
     let is : picked lesser d rest ≡ least = cc in
     subst (λ (z : ℤ). IsLeast z (d ∷ rest)) is
-    (record { is-in = picked-in lesser lesser-picks d rest; least = picked_first lesser lesser-picks d rest })
+    (record { stands_in = picked_in lesser lesser_picks d rest; least = picked_first lesser lesser_picks d rest })
 
-pub greatest-of : (ds : List ℤ) (least greatest : ℤ) → spreadAll None ds ≡ Of least greatest → IsGreatest greatest ds
-greatest-of [] least greatest e = let never : ◌≡◌ {A = ℕ} 0 1 = cc in absurd (omega arith)
-greatest-of (d ∷ rest) least greatest e =
-    let told = sym (spread-from d d rest) ∙ e in
+pub greatest_of : (ds : List ℤ) (least greatest : ℤ) → spread_all None ds ≡ Of least greatest → IsGreatest greatest ds
+greatest_of [] least greatest e = let never : ◌≡◌ {A = ℕ} 0 1 = cc in absurd (omega arith)
+greatest_of (d ∷ rest) least greatest e =
+    let told = sym (spread_from d d rest) ∙ e in
     let is : picked greater d rest ≡ greatest = cc in
     subst (λ (z : ℤ). IsGreatest z (d ∷ rest)) is
-    (record { is-in = picked-in greater greater-picks d rest; greatest = picked_first greater greater-picks d rest })
+    (record { stands_in = picked_in greater greater_picks d rest; greatest = picked_first greater greater_picks d rest })

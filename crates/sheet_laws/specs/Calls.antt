@@ -2,36 +2,36 @@
 use Rattle.std.specs.Prelude.{ℕ, List, [], ◌∷◌}
 use Rattle.bench_record.specs.declared.Asked.{Asked}
 use Rattle.bench_record.specs.declared.Asked.TheVariants.{Call as call, Bad}
-use Rattle.bench_record.specs.Record.{askedBy, payloadOf, lent}
+use Rattle.bench_record.specs.Record.{asked_by, payload_of, lent}
 use Rattle.node.specs.declared.Node.{Node}
-use Rattle.node_call.specs.Calls.{Call, frame, read, set, cycle, confirm, nodeAfter, answer_of}
+use Rattle.node_call.specs.Calls.{Call, frame, read, set, cycle, confirm, node_after, answer_of}
 use Rattle.node_call.specs.Called.{call_of}
 use Rattle.sheet_tally.specs.declared.entry.Entry.{Entry}
-use Rattle.sheet_tally.specs.Entry.{entryOf}
+use Rattle.sheet_tally.specs.Entry.{entry_of}
 use Rattle.sheet_tally.specs.declared.sheet.Sheet.{Sheet}
-use Rattle.sheet_tally.specs.Sheet.{sheetWith}
+use Rattle.sheet_tally.specs.Sheet.{sheet_with}
 
 -- ---- The whole records that are read: those before the first bad one, each as the call that it asks for.
-abbrev pub askedThen : Asked → (payload : List ℕ) → (rest : List Call) → List Call
-askedThen (call q) payload rest = call_of q payload lent ∷ rest
-askedThen Bad payload rest = []
+abbrev pub asked_then : Asked → (payload : List ℕ) → (rest : List Call) → List Call
+asked_then (call q) payload rest = call_of q payload lent ∷ rest
+asked_then Bad payload rest = []
 
 abbrev pub calls_of : List (List ℕ) → List Call
 calls_of [] = []
-calls_of (r ∷ rest) = askedThen (askedBy r) (payloadOf r) (calls_of rest)
+calls_of (r ∷ rest) = asked_then (asked_by r) (payload_of r) (calls_of rest)
 
 -- ---- The bytes of a frame; another call has none.
-abbrev pub frameIn : Call → List ℕ
-frameIn (frame t bytes) = bytes
-frameIn (read domain t) = []
-frameIn (set domain t s ns) = []
-frameIn (cycle t out) = []
-frameIn (confirm domain t counter out) = []
+abbrev pub frame_in : Call → List ℕ
+frame_in (frame t bytes) = bytes
+frame_in (read domain t) = []
+frame_in (set domain t s ns) = []
+frame_in (cycle t out) = []
+frame_in (confirm domain t counter out) = []
 
-abbrev pub entryIn : Node → Call → Entry
-entryIn n c = entryOf (answer_of n c) (frameIn c)
+abbrev pub entry_in : Node → Call → Entry
+entry_in n c = entry_of (answer_of n c) (frame_in c)
 
 -- ---- The sheet after calls, one after another.
-abbrev pub sheetAfter : Node → Sheet → List Call → Sheet
-sheetAfter n s [] = s
-sheetAfter n s (c ∷ rest) = sheetAfter (nodeAfter n c) (sheetWith s (entryIn n c)) rest
+abbrev pub sheet_after : Node → Sheet → List Call → Sheet
+sheet_after n s [] = s
+sheet_after n s (c ∷ rest) = sheet_after (node_after n c) (sheet_with s (entry_in n c)) rest

@@ -2,34 +2,34 @@
 use Rattle.std.specs.Prelude.{ℕ, ◌+◌, ◌≡◌, ◌⊎◌, cond, ◌&&◌, List, [], ◌∷◌, ◌++◌, eqb, ltb, ℤ, ◌≤ℤ◌}
 use Rattle.slave_answer.specs.declared.FrameAnswer.{FrameAnswer}
 use Rattle.node.specs.declared.Node.{Node}
-use Rattle.node.specs.Frame.{addressedBy, nodeFrameOf}
-use Rattle.node_call.specs.Calls.{Call, frame, read, set, cycle, confirm, nodeAfter}
+use Rattle.node.specs.Frame.{addressed_by, node_frame_of}
+use Rattle.node_call.specs.Calls.{Call, frame, read, set, cycle, confirm, node_after}
 use Rattle.node_laws.specs.Leaps.{moves_of}
-use Rattle.sheet_tally.specs.Tally.{columns, columnOf}
+use Rattle.sheet_tally.specs.Tally.{columns, column_of}
 
 -- ---- The answers to the frames of the domain at place i that a column counts, in order.
-abbrev pub heardBy : (i : ℕ) → Node → Call → List FrameAnswer
-heardBy i n (frame t bytes) =
-    let answer = (nodeFrameOf n t bytes).answer in
-    cond (eqb (addressedBy bytes) i && ltb (columnOf answer) columns) (answer ∷ []) []
-heardBy i n (read domain t) = []
-heardBy i n (set domain t s ns) = []
-heardBy i n (cycle t out) = []
-heardBy i n (confirm domain t counter out) = []
+abbrev pub heard_by : (i : ℕ) → Node → Call → List FrameAnswer
+heard_by i n (frame t bytes) =
+    let answer = (node_frame_of n t bytes).answer in
+    cond (eqb (addressed_by bytes) i && ltb (column_of answer) columns) (answer ∷ []) []
+heard_by i n (read domain t) = []
+heard_by i n (set domain t s ns) = []
+heard_by i n (cycle t out) = []
+heard_by i n (confirm domain t counter out) = []
 
-abbrev pub heardIn : (i : ℕ) → Node → List Call → List FrameAnswer
-heardIn i n [] = []
-heardIn i n (c ∷ rest) = heardBy i n c ++ heardIn i (nodeAfter n c) rest
+abbrev pub heard_in : (i : ℕ) → Node → List Call → List FrameAnswer
+heard_in i n [] = []
+heard_in i n (c ∷ rest) = heard_by i n c ++ heard_in i (node_after n c) rest
 
 -- ---- How many of them a column counts.
-abbrev pub countIn : (column : ℕ) → List FrameAnswer → ℕ
-countIn column [] = 0
-countIn column (answer ∷ rest) = cond (eqb (columnOf answer) column) 1 0 + countIn column rest
+abbrev pub count_in : (column : ℕ) → List FrameAnswer → ℕ
+count_in column [] = 0
+count_in column (answer ∷ rest) = cond (eqb (column_of answer) column) 1 0 + count_in column rest
 
 -- ---- Their D.
-abbrev pub differencesIn : List FrameAnswer → List ℤ
-differencesIn [] = []
-differencesIn (answer ∷ rest) = moves_of answer ++ differencesIn rest
+abbrev pub differences_in : List FrameAnswer → List ℤ
+differences_in [] = []
+differences_in (answer ∷ rest) = moves_of answer ++ differences_in rest
 
 -- ---- A number that is one of a list's.
 abbrev pub IsIn : ℤ → List ℤ → Type 0
@@ -38,9 +38,9 @@ IsIn z (d ∷ rest) = (z ≡ d) ⊎ IsIn z rest
 
 -- ---- The least of a list, and the greatest: one of it, and none is less, or greater.
 pub record IsLeast (z : ℤ) (ds : List ℤ) : Type 0 where
-  pub is-in : IsIn z ds
+  pub stands_in : IsIn z ds
   pub least : (d : ℤ) → IsIn d ds → z ≤ℤ d
 
 pub record IsGreatest (z : ℤ) (ds : List ℤ) : Type 0 where
-  pub is-in : IsIn z ds
+  pub stands_in : IsIn z ds
   pub greatest : (d : ℤ) → IsIn d ds → d ≤ℤ z

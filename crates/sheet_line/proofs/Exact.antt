@@ -8,13 +8,13 @@ use native.Mathlib.Omega.{arith}
 use lib.IntN.{ℤ, pos, negsuc}
 use borrow.Author.Tests.{le-leb}
 use Rattle.sheet_sum.specs.declared.Told.TheVariants.{Over}
-use Rattle.sheet_sum.specs.Sum.{Within64, toldOf}
+use Rattle.sheet_sum.specs.Sum.{Within64, told_of}
 use Rattle.sheet_sum.proofs.Sums.{told_over}
-use Rattle.sheet_line.specs.Signed.{signedText, toldText}
+use Rattle.sheet_line.specs.Signed.{signed_text, told_text}
 
-pub told-exact : (z : ℤ) → Within64 z → toldText (toldOf z) ≡ signedText z
-told-exact (pos m) h = rw (le-leb m (2 ^ 63 - 1) (omega arith))
-told-exact (negsuc m) h = rw (le-leb (suc m) (2 ^ 63) (omega arith))
+pub told_exact : (z : ℤ) → Within64 z → told_text (told_of z) ≡ signed_text z
+told_exact (pos m) h = rw (le-leb m (2 ^ 63 - 1) (omega arith))
+told_exact (negsuc m) h = rw (le-leb (suc m) (2 ^ 63) (omega arith))
 
-pub over-told : (z : ℤ) → (Within64 z → ⊥) → toldText (toldOf z) ≡ toldText Over
-over-told z out = ap toldText ((told_over z).1 out)
+pub over_told : (z : ℤ) → (Within64 z → ⊥) → told_text (told_of z) ≡ told_text Over
+over_told z out = ap told_text ((told_over z).1 out)

@@ -11,97 +11,97 @@ use lib.IntN.{ℤ, pos, negsuc}
 use lib.ListN.{length}
 use Rattle.text.specs.Text.{decimal}
 use Rattle.text.specs.Lines.{blank, newline}
-use Rattle.text.proofs.Lengths.{decimal-length, append-fits}
+use Rattle.text.proofs.Lengths.{decimal_length, append_fits}
 use Rattle.settings.specs.declared.domain_settings.Role.{Role}
 use Rattle.settings.specs.declared.domain_settings.Role.TheVariants.{Absent, Slave, Master}
 use Rattle.settings.specs.Node.{places}
-use Rattle.domain.specs.Records.{recordAt}
+use Rattle.domain.specs.Records.{record_at}
 use Rattle.node.specs.declared.Node.{Node}
 use Rattle.sheet_sum.specs.declared.Sum.{Sum}
 use Rattle.sheet_sum.specs.declared.Told.{Told}
 use Rattle.sheet_sum.specs.declared.Told.TheVariants.{Plus, Minus, Over}
-use Rattle.sheet_sum.specs.Sum.{sum_of, toldOf}
+use Rattle.sheet_sum.specs.Sum.{sum_of, told_of}
 use Rattle.sheet_tally.specs.declared.spread.Spread.{Spread}
 use Rattle.sheet_tally.specs.declared.spread.Spread.TheVariants.{None, Of}
 use Rattle.sheet_tally.specs.declared.Tally.{Tally}
 use Rattle.sheet_tally.specs.declared.sheet.Sheet.{Sheet}
-use Rattle.sheet_tally.specs.Sheet.{tallyAt}
-use Rattle.sheet_line.specs.Signed.{plainText, minusText, signedText, toldText}
+use Rattle.sheet_tally.specs.Sheet.{tally_at}
+use Rattle.sheet_line.specs.Signed.{plain_text, minus_text, signed_text, told_text}
 use Rattle.sheet_line.specs.Line.{
-  countsText,
-  spreadText,
-  lineText,
-  otherText,
-  domainText,
-  slavesText,
-  sheetText,
+  counts_text,
+  spread_text,
+  line_text,
+  other_text,
+  domain_text,
+  slaves_text,
+  sheet_text,
 }
 
 -- ---- a number: a blank, a sign, 20 digits
 
-plain_fits : (n : ℕ) → length (plainText n) ≤ 21
-plain_fits n = append-fits blank (decimal n) (le_refl 1) (decimal-length n)
+plain_fits : (n : ℕ) → length (plain_text n) ≤ 21
+plain_fits n = append_fits blank (decimal n) (le_refl 1) (decimal_length n)
 
-minus-fits : (m : ℕ) → length (minusText m) ≤ 22
-minus-fits m = append-fits (32 ∷ 45 ∷ []) (decimal m) (le_refl 2) (decimal-length m)
+minus_fits : (m : ℕ) → length (minus_text m) ≤ 22
+minus_fits m = append_fits (32 ∷ 45 ∷ []) (decimal m) (le_refl 2) (decimal_length m)
 
-signed-fits : (d : ℤ) → length (signedText d) ≤ 22
-signed-fits (pos m) = omega (arith, plain_fits m)
-signed-fits (negsuc m) = minus-fits (suc m)
+signed_fits : (d : ℤ) → length (signed_text d) ≤ 22
+signed_fits (pos m) = omega (arith, plain_fits m)
+signed_fits (negsuc m) = minus_fits (suc m)
 
-told-fits : (told : Told) → length (toldText told) ≤ 22
-told-fits (Plus m) = omega (arith, plain_fits m)
-told-fits (Minus m) = minus-fits m
-told-fits Over = omega arith
+told_fits : (told : Told) → length (told_text told) ≤ 22
+told_fits (Plus m) = omega (arith, plain_fits m)
+told_fits (Minus m) = minus_fits m
+told_fits Over = omega arith
 
 -- ---- a line
 
-counts-fit : (counts : List ℕ) → length (countsText counts) ≤ length counts * 21
-counts-fit [] = omega arith
-counts-fit (n ∷ rest) = omega (arith, append-fits (plainText n) (countsText rest) (plain_fits n) (counts-fit rest))
+counts_fit : (counts : List ℕ) → length (counts_text counts) ≤ length counts * 21
+counts_fit [] = omega arith
+counts_fit (n ∷ rest) = omega (arith, append_fits (plain_text n) (counts_text rest) (plain_fits n) (counts_fit rest))
 
-spread-fits : (spread : Spread) (sum : Sum) → length (spreadText spread sum) ≤ 66
-spread-fits None sum = omega arith
-spread-fits (Of least greatest) sum =
-    append-fits (signedText least ++ signedText greatest) (toldText (toldOf (sum_of sum)))
-    (append-fits (signedText least) (signedText greatest) (signed-fits least) (signed-fits greatest))
-    (told-fits (toldOf (sum_of sum)))
+spread_fits : (spread : Spread) (sum : Sum) → length (spread_text spread sum) ≤ 66
+spread_fits None sum = omega arith
+spread_fits (Of least greatest) sum =
+    append_fits (signed_text least ++ signed_text greatest) (told_text (told_of (sum_of sum)))
+    (append_fits (signed_text least) (signed_text greatest) (signed_fits least) (signed_fits greatest))
+    (told_fits (told_of (sum_of sum)))
 
-pub line-fits : (domain : ℕ) (t : Tally) → length t.counts ≤ 7 → length (lineText domain t) ≤ 234
-line-fits domain t h =
-    let counts : length (countsText t.counts) ≤ 147 = omega (arith, counts-fit t.counts) in
-    append-fits (decimal domain ++ countsText t.counts ++ spreadText t.spread t.sum) newline
-    (append-fits (decimal domain ++ countsText t.counts) (spreadText t.spread t.sum)
-    (append-fits (decimal domain) (countsText t.counts) (decimal-length domain) counts)
-    (spread-fits t.spread t.sum))
+pub line_fits : (domain : ℕ) (t : Tally) → length t.counts ≤ 7 → length (line_text domain t) ≤ 234
+line_fits domain t h =
+    let counts : length (counts_text t.counts) ≤ 147 = omega (arith, counts_fit t.counts) in
+    append_fits (decimal domain ++ counts_text t.counts ++ spread_text t.spread t.sum) newline
+    (append_fits (decimal domain ++ counts_text t.counts) (spread_text t.spread t.sum)
+    (append_fits (decimal domain) (counts_text t.counts) (decimal_length domain) counts)
+    (spread_fits t.spread t.sum))
     (le_refl 1)
 
 -- ---- the sheet
 
-domain-fits :
-    (domain : ℕ) (role : Role) (t : Tally) → length t.counts ≤ 7 → length (domainText domain role t) ≤ 234
-domain-fits domain Absent t h = omega (arith, line-fits domain t h)
-domain-fits domain Slave t h = line-fits domain t h
-domain-fits domain Master t h = omega (arith, line-fits domain t h)
+domain_fits :
+    (domain : ℕ) (role : Role) (t : Tally) → length t.counts ≤ 7 → length (domain_text domain role t) ≤ 234
+domain_fits domain Absent t h = omega (arith, line_fits domain t h)
+domain_fits domain Slave t h = line_fits domain t h
+domain_fits domain Master t h = omega (arith, line_fits domain t h)
 
-other_fits : (n : ℕ) → length (otherText n) ≤ 27
+other_fits : (n : ℕ) → length (other_text n) ≤ 27
 other_fits n =
-    append-fits ((111 ∷ 116 ∷ 104 ∷ 101 ∷ 114 ∷ []) ++ plainText n) newline
-    (append-fits (111 ∷ 116 ∷ 104 ∷ 101 ∷ 114 ∷ []) (plainText n) (le_refl 5) (plain_fits n))
+    append_fits ((111 ∷ 116 ∷ 104 ∷ 101 ∷ 114 ∷ []) ++ plain_text n) newline
+    (append_fits (111 ∷ 116 ∷ 104 ∷ 101 ∷ 114 ∷ []) (plain_text n) (le_refl 5) (plain_fits n))
     (le_refl 1)
 
-module _ (n : Node) (s : Sheet) (few : (i : ℕ) → length (tallyAt s.tallies i).counts ≤ 7) where
-  slaves-fit : (k from : ℕ) → length (slavesText k from n s) ≤ k * 234
-  slaves-fit zero from = omega arith
-  slaves-fit (suc k) from =
-      let role = (recordAt n.domains from).settings.role in
-      let tally = tallyAt s.tallies from in
+module _ (n : Node) (s : Sheet) (few : (i : ℕ) → length (tally_at s.tallies i).counts ≤ 7) where
+  slaves_fit : (k from : ℕ) → length (slaves_text k from n s) ≤ k * 234
+  slaves_fit zero from = omega arith
+  slaves_fit (suc k) from =
+      let role = (record_at n.domains from).settings.role in
+      let tally = tally_at s.tallies from in
       omega (
         arith,
-        append-fits (domainText from role tally) (slavesText k (suc from) n s) (domain-fits from role tally (few from))
-            (slaves-fit k (suc from)),
+        append_fits (domain_text from role tally) (slaves_text k (suc from) n s) (domain_fits from role tally (few from))
+            (slaves_fit k (suc from)),
       )
 
-  pub sheet-fits : length (sheetText n s) ≤ 3771
-  sheet-fits =
-      append-fits (slavesText places 0 n s) (otherText s.other) (slaves-fit places 0) (other_fits s.other)
+  pub sheet_fits : length (sheet_text n s) ≤ 3771
+  sheet_fits =
+      append_fits (slaves_text places 0 n s) (other_text s.other) (slaves_fit places 0) (other_fits s.other)

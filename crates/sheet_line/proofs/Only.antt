@@ -5,18 +5,18 @@ use Prim.Native.Nat.{ℕ}
 use mathlib.Core.List.{List}
 use Rattle.promise.specs.Only.{OnlyOne}
 use Rattle.text.specs.Text.{Puts}
-use Rattle.text.proofs.Only.{puts-only}
+use Rattle.text.proofs.Only.{puts_only}
 use Rattle.node.specs.declared.Node.{Node}
 use Rattle.sheet_tally.specs.declared.Tally.{Tally}
 use Rattle.sheet_tally.specs.declared.sheet.Sheet.{Sheet}
-use Rattle.sheet_line.specs.Line.{lineText, sheetText}
+use Rattle.sheet_line.specs.Line.{line_text, sheet_text}
 
-pub put-sheet-only :
+pub put_sheet_only :
     (n : Node) (s : Sheet) (at : ℕ) (before : List ℕ) →
-    OnlyOne (λ (r : ℕ × List ℕ). Puts (sheetText n s) at before r.0 r.1)
-put-sheet-only n s = puts-only (sheetText n s)
+    OnlyOne (λ (r : ℕ × List ℕ). Puts (sheet_text n s) at before r.0 r.1)
+put_sheet_only n s = puts_only (sheet_text n s)
 
-pub put-line-only :
+pub put_line_only :
     (domain : ℕ) (t : Tally) (at : ℕ) (before : List ℕ) →
-    OnlyOne (λ (r : ℕ × List ℕ). Puts (lineText domain t) at before r.0 r.1)
-put-line-only domain t = puts-only (lineText domain t)
+    OnlyOne (λ (r : ℕ × List ℕ). Puts (line_text domain t) at before r.0 r.1)
+put_line_only domain t = puts_only (line_text domain t)

@@ -5,19 +5,19 @@ use Rattle.text.specs.Lines.{blank}
 use Rattle.sheet_sum.specs.declared.Told.{Told}
 use Rattle.sheet_sum.specs.declared.Told.TheVariants.{Plus, Minus, Over}
 
-abbrev pub plainText : ℕ → List ℕ
-plainText n = blank ++ decimal n
+abbrev pub plain_text : ℕ → List ℕ
+plain_text n = blank ++ decimal n
 
 -- ---- " -", and how far it is below 0
-abbrev pub minusText : ℕ → List ℕ
-minusText m = (32 ∷ 45 ∷ []) ++ decimal m
+abbrev pub minus_text : ℕ → List ℕ
+minus_text m = (32 ∷ 45 ∷ []) ++ decimal m
 
-abbrev pub signedText : ℤ → List ℕ
-signedText (pos m) = plainText m
-signedText (negsuc m) = minusText (suc m)
+abbrev pub signed_text : ℤ → List ℕ
+signed_text (pos m) = plain_text m
+signed_text (negsuc m) = minus_text (suc m)
 
 -- ---- "A sum outside signed 64 bits prints `over`."
-abbrev pub toldText : Told → List ℕ
-toldText (Plus m) = plainText m
-toldText (Minus m) = minusText m
-toldText Over = 32 ∷ 111 ∷ 118 ∷ 101 ∷ 114 ∷ []
+abbrev pub told_text : Told → List ℕ
+told_text (Plus m) = plain_text m
+told_text (Minus m) = minus_text m
+told_text Over = 32 ∷ 111 ∷ 118 ∷ 101 ∷ 114 ∷ []

@@ -3,12 +3,12 @@ pub mod signed;
 
 ghost use Rattle.text.specs.Text.{Puts};
 ghost use Rattle.sheet_line.specs.Line.{
-  countsText,
-  spreadText,
-  lineText,
-  otherText,
-  domainText,
-  sheetText,
+  counts_text,
+  spread_text,
+  line_text,
+  other_text,
+  domain_text,
+  sheet_text,
 };
 
 use crate::signed::{put_plain, put_signed, put_told};
@@ -22,7 +22,7 @@ use text::{put_byte, put_bytes, put_decimal};
 
 // The lines of the node's slaves, by rising number, and the closing line.
 pub fn put_sheet(out: &mut [u8], at: usize, node: Node, sheet: Sheet) -> usize
-    ensures { Puts (sheetText node sheet) at out.old result out.new }
+    ensures { Puts (sheet_text node sheet) at out.old result out.new }
 {
     let mut place = at;
     let mut d = 0;
@@ -39,7 +39,7 @@ pub fn put_sheet(out: &mut [u8], at: usize, node: Node, sheet: Sheet) -> usize
 
 // A slave has a line, and another domain none.
 fn put_domain(out: &mut [u8], at: usize, domain: u8, role: Role, tally: Tally) -> usize
-    ensures { Puts (domainText domain role tally) at out.old result out.new }
+    ensures { Puts (domain_text domain role tally) at out.old result out.new }
 {
     match role {
         Role::Absent => at,
@@ -50,7 +50,7 @@ fn put_domain(out: &mut [u8], at: usize, domain: u8, role: Role, tally: Tally) -
 
 // The domain, its counts, and what is said of D.
 pub fn put_line(out: &mut [u8], at: usize, domain: u8, tally: Tally) -> usize
-    ensures { Puts (lineText domain tally) at out.old result out.new }
+    ensures { Puts (line_text domain tally) at out.old result out.new }
 {
     let counts = tally.counts;
     let spread = tally.spread;
@@ -63,7 +63,7 @@ pub fn put_line(out: &mut [u8], at: usize, domain: u8, tally: Tally) -> usize
 
 // The count of each column.
 fn put_counts(out: &mut [u8], at: usize, counts: [u64; Tally::COLUMNS]) -> usize
-    ensures { Puts (countsText counts) at out.old result out.new }
+    ensures { Puts (counts_text counts) at out.old result out.new }
 {
     let mut place = at;
     let mut column = 0;
@@ -76,7 +76,7 @@ fn put_counts(out: &mut [u8], at: usize, counts: [u64; Tally::COLUMNS]) -> usize
 
 // The least D, the greatest, and the sum.
 fn put_spread(out: &mut [u8], at: usize, spread: Spread, sum: Sum) -> usize
-    ensures { Puts (spreadText spread sum) at out.old result out.new }
+    ensures { Puts (spread_text spread sum) at out.old result out.new }
 {
     match spread {
         Spread::None => put_bytes(out, at, b" - - -"),
@@ -90,7 +90,7 @@ fn put_spread(out: &mut [u8], at: usize, spread: Spread, sum: Sum) -> usize
 
 // The closing line.
 fn put_other(out: &mut [u8], at: usize, other: u64) -> usize
-    ensures { Puts (otherText other) at out.old result out.new }
+    ensures { Puts (other_text other) at out.old result out.new }
 {
     let then = put_bytes(out, at, b"other");
     let end = put_plain(out, then, other);

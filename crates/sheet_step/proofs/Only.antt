@@ -5,18 +5,18 @@ use mathlib.Core.Path.{◌≡◌}
 use mathlib.Core.List.{List}
 use lib.ListN.{length}
 use Rattle.promise.specs.Only.{OnlyOne}
-use Rattle.promise.proofs.Laws.{equation-only}
+use Rattle.promise.proofs.Laws.{equation_only}
 use Rattle.node.specs.declared.Node.{Node}
 use Rattle.sheet_step.specs.declared.Account.{Account}
-use Rattle.sheet_step.specs.Account.{accountOf, afterRecord, afterRecords, recordsOf}
+use Rattle.sheet_step.specs.Account.{account_of, after_record, after_records, records_of}
 
-pub new-only : (n : Node) → OnlyOne (λ (r : Account). r ≡ accountOf n)
-new-only n = equation-only (accountOf n)
+pub new_only : (n : Node) → OnlyOne (λ (r : Account). r ≡ account_of n)
+new_only n = equation_only (account_of n)
 
-pub take-record-only : (a : Account) (bytes : List ℕ) → OnlyOne (λ (r : Account). r ≡ afterRecord a bytes)
-take-record-only a bytes = equation-only (afterRecord a bytes)
+pub take_record_only : (a : Account) (bytes : List ℕ) → OnlyOne (λ (r : Account). r ≡ after_record a bytes)
+take_record_only a bytes = equation_only (after_record a bytes)
 
-pub take-records-only :
+pub take_records_only :
     (a : Account) (bytes : List ℕ) →
-    OnlyOne (λ (r : Account). r ≡ afterRecords a (recordsOf (length bytes / 20) bytes))
-take-records-only a bytes = equation-only (afterRecords a (recordsOf (length bytes / 20) bytes))
+    OnlyOne (λ (r : Account). r ≡ after_records a (records_of (length bytes / 20) bytes))
+take_records_only a bytes = equation_only (after_records a (records_of (length bytes / 20) bytes))

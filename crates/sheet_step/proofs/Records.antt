@@ -11,35 +11,35 @@ use native.Mathlib.Omega.{arith}
 use lib.ListN.{length, take, drop, length-drop}
 use lib.Seq.{drop-drop}
 use Rattle.sheet_step.specs.declared.Account.{Account}
-use Rattle.sheet_step.specs.Account.{afterRecord, afterRecords, recordsOf}
+use Rattle.sheet_step.specs.Account.{after_record, after_records, records_of}
 
 -- ---- the whole records of some bytes
 abbrev pub whole_of : List ℕ → List (List ℕ)
-whole_of bytes = recordsOf (length bytes / 20) bytes
+whole_of bytes = records_of (length bytes / 20) bytes
 
-pub first-record : (bytes : List ℕ) → 20 ≤ length bytes → whole_of bytes ≡ take 20 bytes ∷ whole_of (drop 20 bytes)
-first-record bytes h =
+pub first_record : (bytes : List ℕ) → 20 ≤ length bytes → whole_of bytes ≡ take 20 bytes ∷ whole_of (drop 20 bytes)
+first_record bytes h =
     let count : length bytes / 20 ≡ suc (length (drop 20 bytes) / 20) = omega (arith, length-drop 20 bytes) in
-    ap (λ (k : ℕ). recordsOf k bytes) count
+    ap (λ (k : ℕ). records_of k bytes) count
 
 pub no_record : (bytes : List ℕ) → length bytes < 20 → whole_of bytes ≡ []
-no_record bytes h = let none : length bytes / 20 ≡ 0 = omega arith in ap (λ (k : ℕ). recordsOf k bytes) none
+no_record bytes h = let none : length bytes / 20 ≡ 0 = omega arith in ap (λ (k : ℕ). records_of k bytes) none
 
 -- ---- what is left from a place on makes of an account what the record there does, and then what is left after it
 pub one_on :
     (a : Account) (bytes : List ℕ) (at : ℕ) → 20 ≤ length bytes - at →
-    afterRecords a (whole_of (drop at bytes))
-    ≡ afterRecords (afterRecord a (take (at + 20 - at) (drop at bytes))) (whole_of (drop (at + 20) bytes))
+    after_records a (whole_of (drop at bytes))
+    ≡ after_records (after_record a (take (at + 20 - at) (drop at bytes))) (whole_of (drop (at + 20) bytes))
 one_on a bytes at h =
     let whole : 20 ≤ length (drop at bytes) = omega (arith, length-drop at bytes) in
     let twenty : 20 ≡ at + 20 - at = omega arith in
-    ap (afterRecords a) (first-record (drop at bytes) whole)
-    ∙ ap (λ (rest : List ℕ). afterRecords (afterRecord a (take 20 (drop at bytes))) (whole_of rest))
+    ap (after_records a) (first_record (drop at bytes) whole)
+    ∙ ap (λ (rest : List ℕ). after_records (after_record a (take 20 (drop at bytes))) (whole_of rest))
     (drop-drop 20 at bytes)
-    ∙ ap (λ (k : ℕ). afterRecords (afterRecord a (take k (drop at bytes))) (whole_of (drop (at + 20) bytes))) twenty
+    ∙ ap (λ (k : ℕ). after_records (after_record a (take k (drop at bytes))) (whole_of (drop (at + 20) bytes))) twenty
 
-pub at-end :
-    (a : Account) (bytes : List ℕ) (at : ℕ) → length bytes - at < 20 → afterRecords a (whole_of (drop at bytes)) ≡ a
-at-end a bytes at h =
+pub at_end :
+    (a : Account) (bytes : List ℕ) (at : ℕ) → length bytes - at < 20 → after_records a (whole_of (drop at bytes)) ≡ a
+at_end a bytes at h =
     let few : length (drop at bytes) < 20 = omega (arith, length-drop at bytes) in
-    ap (afterRecords a) (no_record (drop at bytes) few)
+    ap (after_records a) (no_record (drop at bytes) few)

@@ -3,7 +3,7 @@
 pub mod report;
 
 ghost use Rattle.std.specs.Prelude.{◌/◌, ◌≡◌, length};
-ghost use Rattle.sheet_step.specs.Account.{accountOf, called, afterRecord, recordsOf, afterRecords};
+ghost use Rattle.sheet_step.specs.Account.{account_of, called, after_record, records_of, after_records};
 
 use bench_record::{Asked, asked_by, payload};
 use node::Node;
@@ -29,7 +29,7 @@ impl Account {
 
     // No record is read yet.
     pub fn new(node: Node) -> Account
-        ensures { result ≡ accountOf node }
+        ensures { result ≡ account_of node }
     {
         Account {
             node,
@@ -42,7 +42,7 @@ impl Account {
 
 // Every whole record of the bytes, in order, up to a bad one.
 pub fn take_records(account: Account, bytes: &[u8]) -> Account
-    ensures { result ≡ afterRecords account (recordsOf (length bytes.now / 20) bytes.now) }
+    ensures { result ≡ after_records account (records_of (length bytes.now / 20) bytes.now) }
 {
     let mut next = account;
     let mut at = 0;
@@ -55,7 +55,7 @@ pub fn take_records(account: Account, bytes: &[u8]) -> Account
 
 // One record. After a bad one nothing is read.
 pub fn take_record(account: Account, bytes: &[u8]) -> Account
-    ensures { result ≡ afterRecord account bytes.now }
+    ensures { result ≡ after_record account bytes.now }
 {
     if account.bad {
         return account;

@@ -11,7 +11,7 @@ use native.Mathlib.Nat.{lt_of_lt_of_le, le_trans, mul-le-mul_right}
 use native.Mathlib.Omega.{arith}
 use borrow.Author.Tests.{lt-ltb, le-ltb}
 use Rattle.sheet_sum.specs.declared.Wide.{Wide}
-use Rattle.sheet_sum.specs.Wide.{value_of, wide_of, lastWide, moreOf, gap_of}
+use Rattle.sheet_sum.specs.Wide.{value_of, wide_of, last_wide, more_of, gap_of}
 
 pub as_wide : (high low n : ℕ) → low < 2 ^ 64 → n ≡ high * 2 ^ 64 + low → record { high = high; low = low } ≡ wide_of n
 as_wide high low n fits e =
@@ -24,54 +24,54 @@ wide_value n = omega arith
 
 -- ---- so much more
 
-in-128 : (n high : ℕ) → n < high * 2 ^ 64 → high ≤ 2 ^ 64 → n < 2 ^ 128
-in-128 n high h k = lt_of_lt_of_le h (mul-le-mul_right (2 ^ 64) k)
+in_128 : (n high : ℕ) → n < high * 2 ^ 64 → high ≤ 2 ^ 64 → n < 2 ^ 128
+in_128 n high h k = lt_of_lt_of_le h (mul-le-mul_right (2 ^ 64) k)
 
-pub more-plain :
+pub more_plain :
     (w : Wide) (more : ℕ) → w.high < 2 ^ 64 → w.low + more < 2 ^ 64 →
-    record { high = w.high; low = w.low + more } ≡ moreOf w more
-more-plain w more h l =
-    rw (lt-ltb (value_of w + more) (2 ^ 128) (in-128 (value_of w + more) (w.high + 1) (omega arith) (omega arith)))
+    record { high = w.high; low = w.low + more } ≡ more_of w more
+more_plain w more h l =
+    rw (lt-ltb (value_of w + more) (2 ^ 128) (in_128 (value_of w + more) (w.high + 1) (omega arith) (omega arith)))
     (as_wide w.high (w.low + more) (value_of w + more) l (omega arith))
 
-pub more-carried :
+pub more_carried :
     (w : Wide) (more : ℕ) → w.high + 1 < 2 ^ 64 → w.low < 2 ^ 64 → more < 2 ^ 64 → 2 ^ 64 ≤ w.low + more →
-    record { high = w.high + 1; low = more - (2 ^ 64 - 1 - w.low) - 1 } ≡ moreOf w more
-more-carried w more h l m over =
-    rw (lt-ltb (value_of w + more) (2 ^ 128) (in-128 (value_of w + more) (w.high + 2) (omega arith) (omega arith)))
+    record { high = w.high + 1; low = more - (2 ^ 64 - 1 - w.low) - 1 } ≡ more_of w more
+more_carried w more h l m over =
+    rw (lt-ltb (value_of w + more) (2 ^ 128) (in_128 (value_of w + more) (w.high + 2) (omega arith) (omega arith)))
     (as_wide (w.high + 1) (more - (2 ^ 64 - 1 - w.low) - 1) (value_of w + more) (omega arith) (omega arith))
 
-pub more-held :
-    (w : Wide) (more : ℕ) → 2 ^ 64 ≤ w.high + 1 → 2 ^ 64 ≤ w.low + more → lastWide ≡ moreOf w more
-more-held w more h over =
+pub more_held :
+    (w : Wide) (more : ℕ) → 2 ^ 64 ≤ w.high + 1 → 2 ^ 64 ≤ w.low + more → last_wide ≡ more_of w more
+more_held w more h over =
     let beyond : (w.high + 1) * 2 ^ 64 ≤ value_of w + more = omega arith in
     rw (le-ltb (value_of w + more) (2 ^ 128) (le_trans (mul-le-mul_right (2 ^ 64) h) beyond))
 
 -- ---- what a is more than b
 
-pub gap-none : (a b : Wide) → a.high < b.high → a.low < 2 ^ 64 → record { high = 0; low = 0 } ≡ gap_of a b
-gap-none a b h l = as_wide 0 0 (value_of a - value_of b) (omega arith) (omega arith)
+pub gap_none : (a b : Wide) → a.high < b.high → a.low < 2 ^ 64 → record { high = 0; low = 0 } ≡ gap_of a b
+gap_none a b h l = as_wide 0 0 (value_of a - value_of b) (omega arith) (omega arith)
 
-pub gap-plain :
+pub gap_plain :
     (a b : Wide) → b.high ≤ a.high → b.low ≤ a.low → a.low < 2 ^ 64 →
     record { high = a.high - b.high; low = a.low - b.low } ≡ gap_of a b
-gap-plain a b h l fits =
+gap_plain a b h l fits =
     as_wide (a.high - b.high) (a.low - b.low) (value_of a - value_of b) (omega arith) (omega arith)
 
-pub gap-even : (a b : Wide) → a.high - b.high ≡ 0 → a.low < b.low → record { high = 0; low = 0 } ≡ gap_of a b
-gap-even a b e l = as_wide 0 0 (value_of a - value_of b) (omega arith) (omega arith)
+pub gap_even : (a b : Wide) → a.high - b.high ≡ 0 → a.low < b.low → record { high = 0; low = 0 } ≡ gap_of a b
+gap_even a b e l = as_wide 0 0 (value_of a - value_of b) (omega arith) (omega arith)
 
-pub gap-borrowed :
+pub gap_borrowed :
     (a b : Wide) → b.high < a.high → a.low < b.low → b.low < 2 ^ 64 →
     record { high = a.high - b.high - 1; low = 2 ^ 64 - 1 - (b.low - a.low - 1) } ≡ gap_of a b
-gap-borrowed a b h l fits =
+gap_borrowed a b h l fits =
     as_wide (a.high - b.high - 1) (2 ^ 64 - 1 - (b.low - a.low - 1)) (value_of a - value_of b) (omega arith)
     (omega arith)
 
 -- ---- the high half
 
-pub no-high : (w : Wide) → w.high ≡ 0 → value_of w ≡ w.low
-no-high w h = omega arith
+pub no_high : (w : Wide) → w.high ≡ 0 → value_of w ≡ w.low
+no_high w h = omega arith
 
-pub some-high : (w : Wide) → 0 < w.high → 2 ^ 64 ≤ value_of w
-some-high w h = omega arith
+pub some_high : (w : Wide) → 0 < w.high → 2 ^ 64 ≤ value_of w
+some_high w h = omega arith

@@ -4,21 +4,21 @@ use Prim.Native.Nat.{ℕ}
 use mathlib.Core.Path.{◌≡◌}
 use lib.IntN.{ℤ}
 use Rattle.promise.specs.Only.{OnlyOne}
-use Rattle.promise.proofs.Laws.{equation-only}
+use Rattle.promise.proofs.Laws.{equation_only}
 use Rattle.sheet_sum.specs.declared.Wide.{Wide}
 use Rattle.sheet_sum.specs.declared.Sum.{Sum}
 use Rattle.sheet_sum.specs.declared.Told.{Told}
-use Rattle.sheet_sum.specs.Wide.{moreOf}
-use Rattle.sheet_sum.specs.Sum.{noSum, sumWith, sum_of, toldOf}
+use Rattle.sheet_sum.specs.Wide.{more_of}
+use Rattle.sheet_sum.specs.Sum.{no_sum, sum_with, sum_of, told_of}
 
-pub plus-only : (w : Wide) (more : ℕ) → OnlyOne (λ (r : Wide). r ≡ moreOf w more)
-plus-only w more = equation-only (moreOf w more)
+pub plus_only : (w : Wide) (more : ℕ) → OnlyOne (λ (r : Wide). r ≡ more_of w more)
+plus_only w more = equation_only (more_of w more)
 
-pub new-only : OnlyOne (λ (r : Sum). r ≡ noSum)
-new-only = equation-only noSum
+pub new_only : OnlyOne (λ (r : Sum). r ≡ no_sum)
+new_only = equation_only no_sum
 
-pub with-only : (s : Sum) (d : ℤ) → OnlyOne (λ (r : Sum). r ≡ sumWith s d)
-with-only s d = equation-only (sumWith s d)
+pub with_only : (s : Sum) (d : ℤ) → OnlyOne (λ (r : Sum). r ≡ sum_with s d)
+with_only s d = equation_only (sum_with s d)
 
-pub told-only : (s : Sum) → OnlyOne (λ (r : Told). r ≡ toldOf (sum_of s))
-told-only s = equation-only (toldOf (sum_of s))
+pub told_only : (s : Sum) → OnlyOne (λ (r : Told). r ≡ told_of (sum_of s))
+told_only s = equation_only (told_of (sum_of s))

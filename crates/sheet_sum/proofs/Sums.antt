@@ -15,72 +15,72 @@ use lib.ListN.{length}
 use lib.Signed.{lt_z}
 use borrow.Author.Tests.{ltb-true, ltb-false, lt-ltb, le-ltb, leb-true, leb-false, eqb-true, eqb-false}
 use lib.Dec.{leb, ltb, eqb, lit<}
-use Rattle.promise.proofs.Tests.{either-told}
+use Rattle.promise.proofs.Tests.{either_told}
 use Rattle.sheet_sum.specs.declared.Wide.{Wide}
 use Rattle.sheet_sum.specs.declared.Sum.{Sum}
 use Rattle.sheet_sum.specs.declared.Told.{Told}
 use Rattle.sheet_sum.specs.declared.Told.TheVariants.{Over}
-use Rattle.sheet_sum.specs.Wide.{value_of, moreOf, gap_of}
+use Rattle.sheet_sum.specs.Wide.{value_of, more_of, gap_of}
 use Rattle.sheet_sum.specs.Sum.{
   total,
   Within64,
   AllWithin64,
-  noSum,
-  sumWith,
-  sumWithAll,
+  no_sum,
+  sum_with,
+  sum_with_all,
   sum_of,
-  plusOf,
-  minusOf,
-  toldOf,
+  plus_of,
+  minus_of,
+  told_of,
 }
 use Rattle.sheet_sum.proofs.Halves.{wide_value}
 
 -- ---- a D more
 
-pub goes-behind :
+pub goes_behind :
     (s : Sum) (d : ℤ) → lt_z d (pos 0) ≡ true →
-    record { ahead = s.ahead; behind = moreOf s.behind (nat_abs d) } ≡ sumWith s d
-goes-behind s (pos m) e = absurd (omega (arith, ltb-true m 0 e))
-goes-behind s (negsuc m) e = refl
+    record { ahead = s.ahead; behind = more_of s.behind (nat_abs d) } ≡ sum_with s d
+goes_behind s (pos m) e = absurd (omega (arith, ltb-true m 0 e))
+goes_behind s (negsuc m) e = refl
 
-pub goes-ahead :
+pub goes_ahead :
     (s : Sum) (d : ℤ) → lt_z d (pos 0) ≡ false →
-    record { ahead = moreOf s.ahead (nat_abs d); behind = s.behind } ≡ sumWith s d
-goes-ahead s (pos m) e = refl
-goes-ahead s (negsuc m) e = cc
+    record { ahead = more_of s.ahead (nat_abs d); behind = s.behind } ≡ sum_with s d
+goes_ahead s (pos m) e = refl
+goes_ahead s (negsuc m) e = cc
 
 -- ---- what a sum tells
 
-not-less : (a b : ℕ) → b - a ≡ 0 → plusOf (a - b) ≡ toldOf (sub_ℕ a b)
-not-less a b e = rw (le-ltb a b (omega arith))
+not_less : (a b : ℕ) → b - a ≡ 0 → plus_of (a - b) ≡ told_of (sub_ℕ a b)
+not_less a b e = rw (le-ltb a b (omega arith))
 
-less : (a b : ℕ) → (b - a ≡ 0 → ⊥) → minusOf (b - a) ≡ toldOf (sub_ℕ a b)
+less : (a b : ℕ) → (b - a ≡ 0 → ⊥) → minus_of (b - a) ≡ told_of (sub_ℕ a b)
 less a b some =
     let h : a < b = omega arith in
     let e : b - a ≡ suc (b - suc a) = omega arith in
-    rw (lt-ltb a b h) (ap minusOf e)
+    rw (lt-ltb a b h) (ap minus_of e)
 
 module _ (s : Sum) where
-  pub told-plus :
+  pub told_plus :
       eqb (value_of (gap_of s.behind s.ahead)) 0 ≡ true →
-      plusOf (value_of (gap_of s.ahead s.behind)) ≡ toldOf (sum_of s)
-  told-plus e =
-      ap plusOf (wide_value (value_of s.ahead - value_of s.behind))
-      ∙ not-less (value_of s.ahead) (value_of s.behind)
+      plus_of (value_of (gap_of s.ahead s.behind)) ≡ told_of (sum_of s)
+  told_plus e =
+      ap plus_of (wide_value (value_of s.ahead - value_of s.behind))
+      ∙ not_less (value_of s.ahead) (value_of s.behind)
       (sym (wide_value (value_of s.behind - value_of s.ahead)) ∙ eqb-true _ 0 e)
 
-  pub told-minus :
+  pub told_minus :
       eqb (value_of (gap_of s.behind s.ahead)) 0 ≡ false →
-      minusOf (value_of (gap_of s.behind s.ahead)) ≡ toldOf (sum_of s)
-  told-minus e =
+      minus_of (value_of (gap_of s.behind s.ahead)) ≡ told_of (sum_of s)
+  told_minus e =
       let w = wide_value (value_of s.behind - value_of s.ahead) in
-      ap minusOf w ∙ less (value_of s.ahead) (value_of s.behind) (λ z. eqb-false _ 0 e (w ∙ z))
+      ap minus_of w ∙ less (value_of s.ahead) (value_of s.behind) (λ z. eqb-false _ 0 e (w ∙ z))
 
 -- ---- a difference of naturals, with more on one side
 
 move : (a m k : ℕ) → sub_ℕ (a + m) (a + k) ≡ sub_ℕ m k
 move a m k =
-    either-told (λ (z : ℤ). sub_ℕ (a + m) (a + k) ≡ z) (ltb m k)
+    either_told (λ (z : ℤ). sub_ℕ (a + m) (a + k) ≡ z) (ltb m k)
     (λ e.
     let h = ltb-true m k e in
     let less : a + m < a + k = omega arith in
@@ -94,7 +94,7 @@ move a m k =
 
 ahead_more : (a b m : ℕ) → sub_ℕ (a + m) b ≡ sub_ℕ a b +ℤ pos m
 ahead_more a b m =
-    either-told (λ (z : ℤ). sub_ℕ (a + m) b ≡ z +ℤ pos m) (ltb a b)
+    either_told (λ (z : ℤ). sub_ℕ (a + m) b ≡ z +ℤ pos m) (ltb a b)
     (λ e.
     let h = ltb-true a b e in
     let same : b ≡ a + suc (b - suc a) = omega arith in
@@ -107,7 +107,7 @@ ahead_more a b m =
 
 behind_more : (a b m : ℕ) → sub_ℕ a (b + suc m) ≡ sub_ℕ a b +ℤ negsuc m
 behind_more a b m =
-    either-told (λ (z : ℤ). sub_ℕ a (b + suc m) ≡ z +ℤ negsuc m) (ltb a b)
+    either_told (λ (z : ℤ). sub_ℕ a (b + suc m) ≡ z +ℤ negsuc m) (ltb a b)
     (λ e.
     let h = ltb-true a b e in
     let less : a < b + suc m = omega arith in
@@ -120,34 +120,34 @@ behind_more a b m =
 
 -- ---- the sum is exact as long as neither number is held
 
-more-value : (w : Wide) (m : ℕ) → value_of w + m < 2 ^ 128 → value_of (moreOf w m) ≡ value_of w + m
-more-value w m h = rw (lt-ltb (value_of w + m) (2 ^ 128) h) (wide_value (value_of w + m))
+more_value : (w : Wide) (m : ℕ) → value_of w + m < 2 ^ 128 → value_of (more_of w m) ≡ value_of w + m
+more_value w m h = rw (lt-ltb (value_of w + m) (2 ^ 128) h) (wide_value (value_of w + m))
 
 module _ (top : ℕ) (fits : (n : ℕ) → n ≤ top → n < 2 ^ 128) where
   pub record Room (s : Sum) (left : ℕ) : Type 0 where
     pub ahead : value_of s.ahead + left * 2 ^ 63 ≤ top
     pub behind : value_of s.behind + left * 2 ^ 63 ≤ top
 
-  with-one :
+  with_one :
       (s : Sum) (d : ℤ) (left : ℕ) → Within64 d → Room s (suc left) →
-      (sum_of (sumWith s d) ≡ sum_of s +ℤ d) × Room (sumWith s d) left
-  with-one s (pos m) left h r =
+      (sum_of (sum_with s d) ≡ sum_of s +ℤ d) × Room (sum_with s d) left
+  with_one s (pos m) left h r =
       let a = value_of s.ahead in
       let b = value_of s.behind in
       let up : a + suc left * 2 ^ 63 ≤ top = r.ahead in
       let down : b + suc left * 2 ^ 63 ≤ top = r.behind in
-      let value = more-value s.ahead m (fits (a + m) (omega arith)) in
+      let value = more_value s.ahead m (fits (a + m) (omega arith)) in
       let room : a + m + left * 2 ^ 63 ≤ top = omega arith in
       let other : b + left * 2 ^ 63 ≤ top = omega arith in (
         ap (λ (x : ℕ). sub_ℕ x b) value ∙ ahead_more a b m,
         record { ahead = rw value room; behind = other },
       )
-  with-one s (negsuc m) left h r =
+  with_one s (negsuc m) left h r =
       let a = value_of s.ahead in
       let b = value_of s.behind in
       let up : a + suc left * 2 ^ 63 ≤ top = r.ahead in
       let down : b + suc left * 2 ^ 63 ≤ top = r.behind in
-      let value = more-value s.behind (suc m) (fits (b + suc m) (omega arith)) in
+      let value = more_value s.behind (suc m) (fits (b + suc m) (omega arith)) in
       let room : b + suc m + left * 2 ^ 63 ≤ top = omega arith in
       let other : a + left * 2 ^ 63 ≤ top = omega arith in (
         ap (sub_ℕ a) value ∙ behind_more a b m,
@@ -155,19 +155,19 @@ module _ (top : ℕ) (fits : (n : ℕ) → n ≤ top → n < 2 ^ 128) where
       )
 
   with_all :
-      (s : Sum) (ds : List ℤ) → AllWithin64 ds → Room s (length ds) → sum_of (sumWithAll s ds) ≡ sum_of s +ℤ total ds
+      (s : Sum) (ds : List ℤ) → AllWithin64 ds → Room s (length ds) → sum_of (sum_with_all s ds) ≡ sum_of s +ℤ total ds
   with_all s [] h r = sym (+ℤ_idr (sum_of s))
   with_all s (d ∷ ds) h r =
-      let one = with-one s d (length ds) h.0 r in
-      with_all (sumWith s d) ds h.1 one.1
+      let one = with_one s d (length ds) h.0 r in
+      with_all (sum_with s d) ds h.1 one.1
       ∙ ap (λ (z : ℤ). z +ℤ total ds) one.0
       ∙ +ℤ_assoc (sum_of s) d (total ds)
 
-pub sum-exact : (ds : List ℤ) → AllWithin64 ds → length ds < 2 ^ 64 → sum_of (sumWithAll noSum ds) ≡ total ds
-sum-exact ds h few =
+pub sum_exact : (ds : List ℤ) → AllWithin64 ds → length ds < 2 ^ 64 → sum_of (sum_with_all no_sum ds) ≡ total ds
+sum_exact ds h few =
     let room : length ds * 2 ^ 63 ≤ 2 ^ 64 * 2 ^ 63 = mul-le-mul_right (2 ^ 63) (le_of_lt few) in
     let here : 0 + length ds * 2 ^ 63 ≤ 2 ^ 64 * 2 ^ 63 = rw (zero-add (length ds * 2 ^ 63)) room in
-    with_all (2 ^ 64 * 2 ^ 63) (λ n k. lt_of_le_of_lt k (lit< tt)) noSum ds h (record { ahead = here; behind = here })
+    with_all (2 ^ 64 * 2 ^ 63) (λ n k. lt_of_le_of_lt k (lit< tt)) no_sum ds h (record { ahead = here; behind = here })
     ∙ +ℤ_idl (total ds)
 
 -- ---- `over`
@@ -175,16 +175,16 @@ sum-exact ds h few =
 abbrev OverExactly : Told → ℤ → Type 0
 OverExactly told z = (told ≡ Over → Within64 z → ⊥) × ((Within64 z → ⊥) → told ≡ Over)
 
-pub told_over : (z : ℤ) → OverExactly (toldOf z) z
+pub told_over : (z : ℤ) → OverExactly (told_of z) z
 told_over (pos m) =
-    either-told (λ (told : Told). OverExactly told (pos m)) (leb m _)
+    either_told (λ (told : Told). OverExactly told (pos m)) (leb m _)
     (λ e. (
       λ over h. let no : ◌≡◌ {A = ℕ} 0 1 = cc in omega arith,
       λ out. absurd (out (omega (arith, leb-true m _ e))),
     ))
     (λ e. (λ over h. omega (arith, h, leb-false m _ e), λ out. refl))
 told_over (negsuc m) =
-    either-told (λ (told : Told). OverExactly told (negsuc m)) (leb (suc m) _)
+    either_told (λ (told : Told). OverExactly told (negsuc m)) (leb (suc m) _)
     (λ e. (
       λ over h. let no : ◌≡◌ {A = ℕ} 0 1 = cc in omega arith,
       λ out. absurd (out (omega (arith, leb-true (suc m) _ e))),

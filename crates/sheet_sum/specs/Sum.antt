@@ -5,7 +5,7 @@ use Rattle.std.specs.Int.Signed.{mag}
 use Rattle.sheet_sum.specs.declared.Sum.{Sum}
 use Rattle.sheet_sum.specs.declared.Told.{Told}
 use Rattle.sheet_sum.specs.declared.Told.TheVariants.{Plus, Minus, Over}
-use Rattle.sheet_sum.specs.Wide.{value_of, moreOf}
+use Rattle.sheet_sum.specs.Wide.{value_of, more_of}
 
 -- ---- The sum of D, as a reader means it.
 abbrev pub total : List ℤ → ℤ
@@ -21,27 +21,27 @@ AllWithin64 [] = Unit {0}
 AllWithin64 (d ∷ rest) = Within64 d × AllWithin64 rest
 
 -- ---- How it is kept: of no D, and with one D more, which goes to one of the two numbers.
-abbrev pub noSum : Sum
-noSum = record { ahead = record { high = 0; low = 0 }; behind = record { high = 0; low = 0 } }
+abbrev pub no_sum : Sum
+no_sum = record { ahead = record { high = 0; low = 0 }; behind = record { high = 0; low = 0 } }
 
-abbrev pub sumWith : Sum → ℤ → Sum
-sumWith s (pos m) = record { ahead = moreOf s.ahead m; behind = s.behind }
-sumWith s (negsuc m) = record { ahead = s.ahead; behind = moreOf s.behind (suc m) }
+abbrev pub sum_with : Sum → ℤ → Sum
+sum_with s (pos m) = record { ahead = more_of s.ahead m; behind = s.behind }
+sum_with s (negsuc m) = record { ahead = s.ahead; behind = more_of s.behind (suc m) }
 
-abbrev pub sumWithAll : Sum → List ℤ → Sum
-sumWithAll s [] = s
-sumWithAll s (d ∷ rest) = sumWithAll (sumWith s d) rest
+abbrev pub sum_with_all : Sum → List ℤ → Sum
+sum_with_all s [] = s
+sum_with_all s (d ∷ rest) = sum_with_all (sum_with s d) rest
 
 abbrev pub sum_of : Sum → ℤ
 sum_of s = sub_ℕ (value_of s.ahead) (value_of s.behind)
 
 -- ---- "A sum outside signed 64 bits prints `over`"; -2^63 is inside.
-abbrev pub plusOf : ℕ → Told
-plusOf m = cond (leb m (2 ^ 63 - 1)) (Plus m) Over
+abbrev pub plus_of : ℕ → Told
+plus_of m = cond (leb m (2 ^ 63 - 1)) (Plus m) Over
 
-abbrev pub minusOf : ℕ → Told
-minusOf m = cond (leb m (2 ^ 63)) (Minus m) Over
+abbrev pub minus_of : ℕ → Told
+minus_of m = cond (leb m (2 ^ 63)) (Minus m) Over
 
-abbrev pub toldOf : ℤ → Told
-toldOf (pos m) = plusOf m
-toldOf (negsuc m) = minusOf (suc m)
+abbrev pub told_of : ℤ → Told
+told_of (pos m) = plus_of m
+told_of (negsuc m) = minus_of (suc m)

@@ -1,8 +1,8 @@
 // The exact sum of D (paper 02, request 13). What is ahead and what is behind are added up apart, in 128 bits each, and
 // one is taken from the other when the sum is told: no partial sum can leave its bits, and none has a sign.
 ghost use Rattle.std.specs.Prelude.{◌≡◌, eqb};
-ghost use Rattle.sheet_sum.specs.Wide.{value_of, gap_of, moreOf};
-ghost use Rattle.sheet_sum.specs.Sum.{noSum, sumWith, sum_of, plusOf, minusOf, toldOf};
+ghost use Rattle.sheet_sum.specs.Wide.{value_of, gap_of, more_of};
+ghost use Rattle.sheet_sum.specs.Sum.{no_sum, sum_with, sum_of, plus_of, minus_of, told_of};
 
 use clock::magnitude;
 
@@ -31,7 +31,7 @@ pub enum Told {
 impl Wide {
     // So much more: held at the last number of 128 bits.
     pub fn plus(self, more: u64) -> Wide
-        ensures { result ≡ moreOf self more }
+        ensures { result ≡ more_of self more }
     {
         let room = u64::MAX - self.low;
         if more <= room {
@@ -56,7 +56,7 @@ impl Wide {
 impl Sum {
     // Of no D.
     pub fn new() -> Sum
-        ensures { result ≡ noSum }
+        ensures { result ≡ no_sum }
     {
         Sum {
             ahead: Wide { high: 0, low: 0 },
@@ -66,7 +66,7 @@ impl Sum {
 
     // With one D more.
     pub fn with(self, d: i64) -> Sum
-        ensures { result ≡ sumWith self d }
+        ensures { result ≡ sum_with self d }
     {
         let ahead = self.ahead;
         let behind = self.behind;
@@ -85,7 +85,7 @@ impl Sum {
 
     // The sum itself, if it is within signed 64 bits.
     pub fn told(self) -> Told
-        ensures { result ≡ toldOf (sum_of self) }
+        ensures { result ≡ told_of (sum_of self) }
     {
         let ahead = gap(self.ahead, self.behind);
         let behind = gap(self.behind, self.ahead);
@@ -127,7 +127,7 @@ fn is_zero(m: Wide) -> bool
 }
 
 fn plus(m: Wide) -> Told
-    ensures { result ≡ plusOf (value_of m) }
+    ensures { result ≡ plus_of (value_of m) }
 {
     if 0 < m.high {
         return Told::Over;
@@ -140,7 +140,7 @@ fn plus(m: Wide) -> Told
 }
 
 fn minus(m: Wide) -> Told
-    ensures { result ≡ minusOf (value_of m) }
+    ensures { result ≡ minus_of (value_of m) }
 {
     if 0 < m.high {
         return Told::Over;

@@ -3,16 +3,16 @@
 use Prim.Native.Nat.{ℕ}
 use mathlib.Core.Path.{◌≡◌}
 use Rattle.promise.specs.Only.{OnlyOne}
-use Rattle.promise.proofs.Laws.{equation-only}
+use Rattle.promise.proofs.Laws.{equation_only}
 use Rattle.slave_answer.specs.declared.FrameAnswer.{FrameAnswer}
 use Rattle.sheet_tally.specs.declared.Tally.{Tally}
-use Rattle.sheet_tally.specs.Tally.{noTally, columnOf, countedOf}
+use Rattle.sheet_tally.specs.Tally.{no_tally, column_of, counted_of}
 
-pub new-only : OnlyOne (λ (r : Tally). r ≡ noTally)
-new-only = equation-only noTally
+pub new_only : OnlyOne (λ (r : Tally). r ≡ no_tally)
+new_only = equation_only no_tally
 
-pub counted-only : (t : Tally) (answer : FrameAnswer) → OnlyOne (λ (r : Tally). r ≡ countedOf t answer)
-counted-only t answer = equation-only (countedOf t answer)
+pub counted_only : (t : Tally) (answer : FrameAnswer) → OnlyOne (λ (r : Tally). r ≡ counted_of t answer)
+counted_only t answer = equation_only (counted_of t answer)
 
-pub column-of-only : (answer : FrameAnswer) → OnlyOne (λ (r : ℕ). r ≡ columnOf answer)
-column-of-only answer = equation-only (columnOf answer)
+pub column_of_only : (answer : FrameAnswer) → OnlyOne (λ (r : ℕ). r ≡ column_of answer)
+column_of_only answer = equation_only (column_of answer)

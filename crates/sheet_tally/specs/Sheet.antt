@@ -1,22 +1,22 @@
 -- Paper 02, request 13: the sheet of all domains. Assumes nothing.
 use Rattle.std.specs.Prelude.{ℕ, ◌%◌, List, get_or, set, replicate}
-use Rattle.text.specs.Pieces.{nextItem}
+use Rattle.text.specs.Pieces.{next_item}
 use Rattle.settings.specs.Node.{places}
 use Rattle.sheet_tally.specs.declared.Tally.{Tally}
 use Rattle.sheet_tally.specs.declared.entry.Entry.{Entry}
 use Rattle.sheet_tally.specs.declared.entry.Entry.TheVariants.{Of, Other}
 use Rattle.sheet_tally.specs.declared.sheet.Sheet.{Sheet}
-use Rattle.sheet_tally.specs.Tally.{noTally, countedOf}
+use Rattle.sheet_tally.specs.Tally.{no_tally, counted_of}
 
-abbrev pub tallyAt : List Tally → (at : ℕ) → Tally
-tallyAt tallies at = get_or tallies at noTally
+abbrev pub tally_at : List Tally → (at : ℕ) → Tally
+tally_at tallies at = get_or tallies at no_tally
 
-abbrev pub noSheet : Sheet
-noSheet = record { tallies = replicate places noTally; other = 0 }
+abbrev pub no_sheet : Sheet
+no_sheet = record { tallies = replicate places no_tally; other = 0 }
 
 -- ---- A record goes to its domain's tally, or is counted among the others.
-abbrev pub sheetWith : Sheet → Entry → Sheet
-sheetWith s (Of domain answer) =
+abbrev pub sheet_with : Sheet → Entry → Sheet
+sheet_with s (Of domain answer) =
     let at = domain % places in
-    record { tallies = set s.tallies at (countedOf (tallyAt s.tallies at) answer); other = s.other }
-sheetWith s Other = record { tallies = s.tallies; other = nextItem s.other }
+    record { tallies = set s.tallies at (counted_of (tally_at s.tallies at) answer); other = s.other }
+sheet_with s Other = record { tallies = s.tallies; other = next_item s.other }

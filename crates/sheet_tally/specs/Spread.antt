@@ -10,6 +10,6 @@ lesser a b = cond (lt_z a b) a b
 abbrev pub greater : ℤ → ℤ → ℤ
 greater a b = cond (lt_z b a) a b
 
-abbrev pub spreadWith : Spread → ℤ → Spread
-spreadWith None d = Of d d
-spreadWith (Of least greatest) d = Of (lesser d least) (greater d greatest)
+abbrev pub spread_with : Spread → ℤ → Spread
+spread_with None d = Of d d
+spread_with (Of least greatest) d = Of (lesser d least) (greater d greatest)

@@ -2,13 +2,13 @@
 -- sum of all D". Assumes nothing.
 use Rattle.std.specs.Prelude.{ℕ, ◌-◌, cond, ltb, ℤ, get_or, set, replicate}
 use Rattle.refusal.specs.Numbers.{number_of}
-use Rattle.text.specs.Pieces.{nextItem}
+use Rattle.text.specs.Pieces.{next_item}
 use Rattle.slave_answer.specs.declared.FrameAnswer.{FrameAnswer}
 use Rattle.slave_answer.specs.declared.FrameAnswer.TheVariants.{SyncTaken, FirstTaken, Updated, Refused}
-use Rattle.sheet_sum.specs.Sum.{noSum, sumWith}
+use Rattle.sheet_sum.specs.Sum.{no_sum, sum_with}
 use Rattle.sheet_tally.specs.declared.spread.Spread.TheVariants.{None}
 use Rattle.sheet_tally.specs.declared.Tally.{Tally}
-use Rattle.sheet_tally.specs.Spread.{spreadWith}
+use Rattle.sheet_tally.specs.Spread.{spread_with}
 
 -- ---- The seven counts of a line.
 abbrev pub columns : ℕ
@@ -16,38 +16,38 @@ columns = 7
 
 -- ---- Which of them counts an answer: the SYNCs taken, the FUPs taken, the frames refused under 5 to 9. `columns` is
 -- none of them.
-abbrev pub refusedColumn : (number : ℕ) → ℕ
-refusedColumn number = cond (ltb number 5) columns (cond (ltb 9 number) columns (number - 3))
+abbrev pub refused_column : (number : ℕ) → ℕ
+refused_column number = cond (ltb number 5) columns (cond (ltb 9 number) columns (number - 3))
 
-abbrev pub columnOf : FrameAnswer → ℕ
-columnOf SyncTaken = 0
-columnOf FirstTaken = 1
-columnOf (Updated d) = 1
-columnOf (Refused refusal) = refusedColumn (number_of refusal)
+abbrev pub column_of : FrameAnswer → ℕ
+column_of SyncTaken = 0
+column_of FirstTaken = 1
+column_of (Updated d) = 1
+column_of (Refused refusal) = refused_column (number_of refusal)
 
-abbrev pub noTally : Tally
-noTally = record { counts = replicate columns 0; spread = None; sum = noSum }
+abbrev pub no_tally : Tally
+no_tally = record { counts = replicate columns 0; spread = None; sum = no_sum }
 
 -- ---- One more in a column, if it is one.
-abbrev pub oneMoreIn : Tally → (column : ℕ) → Tally
-oneMoreIn t column =
+abbrev pub one_more_in : Tally → (column : ℕ) → Tally
+one_more_in t column =
     cond (ltb column columns)
     (record {
-      counts = set t.counts column (nextItem (get_or t.counts column 0));
+      counts = set t.counts column (next_item (get_or t.counts column 0));
       spread = t.spread;
       sum = t.sum;
     })
     t
 
-abbrev pub withDifference : Tally → ℤ → Tally
-withDifference t d = record { counts = t.counts; spread = spreadWith t.spread d; sum = sumWith t.sum d }
+abbrev pub with_difference : Tally → ℤ → Tally
+with_difference t d = record { counts = t.counts; spread = spread_with t.spread d; sum = sum_with t.sum d }
 
 -- ---- "On each update of a set base let D be": the first FUP sets the base, and has none.
-abbrev pub measuredBy : FrameAnswer → Tally → Tally
-measuredBy SyncTaken t = t
-measuredBy FirstTaken t = t
-measuredBy (Updated d) t = withDifference t d
-measuredBy (Refused refusal) t = t
+abbrev pub measured_by : FrameAnswer → Tally → Tally
+measured_by SyncTaken t = t
+measured_by FirstTaken t = t
+measured_by (Updated d) t = with_difference t d
+measured_by (Refused refusal) t = t
 
-abbrev pub countedOf : Tally → FrameAnswer → Tally
-countedOf t answer = measuredBy answer (oneMoreIn t (columnOf answer))
+abbrev pub counted_of : Tally → FrameAnswer → Tally
+counted_of t answer = measured_by answer (one_more_in t (column_of answer))

@@ -1,7 +1,7 @@
 // Whose an answered record is (paper 02, request 13): a domain's, where its frame is taken or refused under 5 to 9;
 // else it is one of the others. Under these numbers the domain in byte 2 is a slave's, which 4 has let pass.
 ghost use Rattle.std.specs.Prelude.{◌≡◌};
-ghost use Rattle.sheet_tally.specs.Entry.{entryBy, entryOf};
+ghost use Rattle.sheet_tally.specs.Entry.{entry_by, entry_of};
 
 use crate::{Tally, column_of};
 use frame_read::named_domain;
@@ -17,7 +17,7 @@ pub enum Entry {
 
 // `frame` is what a frame call was given.
 pub fn entry_of(answer: CallAnswer, frame: &[u8]) -> Entry
-    ensures { result ≡ entryOf answer frame.now }
+    ensures { result ≡ entry_of answer frame.now }
 {
     match answer {
         CallAnswer::Frame(told) => entry_by(told, frame),
@@ -29,7 +29,7 @@ pub fn entry_of(answer: CallAnswer, frame: &[u8]) -> Entry
 }
 
 fn entry_by(answer: FrameAnswer, frame: &[u8]) -> Entry
-    ensures { result ≡ entryBy answer frame.now }
+    ensures { result ≡ entry_by answer frame.now }
 {
     if (column_of(answer) as usize) < Tally::COLUMNS {
         Entry::Of(named_domain(frame), answer)

@@ -6,12 +6,12 @@ pub mod spread;
 
 ghost use Rattle.std.specs.Prelude.{◌≡◌};
 ghost use Rattle.sheet_tally.specs.Tally.{
-  noTally,
-  refusedColumn,
-  columnOf,
-  oneMoreIn,
-  withDifference,
-  countedOf,
+  no_tally,
+  refused_column,
+  column_of,
+  one_more_in,
+  with_difference,
+  counted_of,
 };
 
 use crate::spread::Spread;
@@ -33,7 +33,7 @@ impl Tally {
 
     // Of no frame.
     pub fn new() -> Tally
-        ensures { result ≡ noTally }
+        ensures { result ≡ no_tally }
     {
         Tally {
             counts: [0; Tally::COLUMNS],
@@ -44,7 +44,7 @@ impl Tally {
 
     // With one answer more.
     pub fn counted(self, answer: FrameAnswer) -> Tally
-        ensures { result ≡ countedOf self answer }
+        ensures { result ≡ counted_of self answer }
     {
         let column = column_of(answer);
         let tally = one_more_in(self, column);
@@ -59,7 +59,7 @@ impl Tally {
 
 // The column that counts an answer. 7 is none: a number below 5 or above 9.
 pub fn column_of(answer: FrameAnswer) -> u8
-    ensures { result ≡ columnOf answer }
+    ensures { result ≡ column_of answer }
 {
     match answer {
         FrameAnswer::SyncTaken => 0,
@@ -70,7 +70,7 @@ pub fn column_of(answer: FrameAnswer) -> u8
 }
 
 fn refused_column(number: u8) -> u8
-    ensures { result ≡ refusedColumn number }
+    ensures { result ≡ refused_column number }
 {
     if number < 5 {
         return 7;
@@ -82,7 +82,7 @@ fn refused_column(number: u8) -> u8
 }
 
 fn one_more_in(mut tally: Tally, column: u8) -> Tally
-    ensures { result ≡ oneMoreIn tally column }
+    ensures { result ≡ one_more_in tally column }
 {
     let at = column as usize;
     if at < Tally::COLUMNS {
@@ -92,7 +92,7 @@ fn one_more_in(mut tally: Tally, column: u8) -> Tally
 }
 
 fn with_difference(tally: Tally, d: i64) -> Tally
-    ensures { result ≡ withDifference tally d }
+    ensures { result ≡ with_difference tally d }
 {
     let counts = tally.counts;
     let spread = tally.spread;

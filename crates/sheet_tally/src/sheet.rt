@@ -1,6 +1,6 @@
 // The sheet (paper 02, request 13): a tally for each domain, and the count of all other records.
 ghost use Rattle.std.specs.Prelude.{◌≡◌};
-ghost use Rattle.sheet_tally.specs.Sheet.{noSheet, sheetWith};
+ghost use Rattle.sheet_tally.specs.Sheet.{no_sheet, sheet_with};
 
 use crate::Tally;
 use crate::entry::Entry;
@@ -19,7 +19,7 @@ impl Sheet {
 
     // Of no record.
     pub fn new() -> Sheet
-        ensures { result ≡ noSheet }
+        ensures { result ≡ no_sheet }
     {
         Sheet {
             tallies: [Tally::new(); Sheet::DOMAINS],
@@ -29,7 +29,7 @@ impl Sheet {
 
     // With one record more.
     pub fn with(mut self, entry: Entry) -> Sheet
-        ensures { result ≡ sheetWith self entry }
+        ensures { result ≡ sheet_with self entry }
     {
         match entry {
             Entry::Of(named, answer) => {

@@ -1,6 +1,6 @@
 // The least and the greatest D (paper 02, request 13).
 ghost use Rattle.std.specs.Prelude.{◌≡◌};
-ghost use Rattle.sheet_tally.specs.Spread.{lesser, greater, spreadWith};
+ghost use Rattle.sheet_tally.specs.Spread.{lesser, greater, spread_with};
 
 #[derive(Drop)]
 pub enum Spread {
@@ -12,7 +12,7 @@ pub enum Spread {
 impl Spread {
     // With one D more.
     pub fn with(self, d: i64) -> Spread
-        ensures { result ≡ spreadWith self d }
+        ensures { result ≡ spread_with self d }
     {
         match self {
             Spread::None => Spread::Of {

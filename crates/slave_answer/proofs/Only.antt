@@ -4,9 +4,9 @@
 use Prim.Native.Nat.{ℕ}
 use mathlib.Core.Path.{◌≡◌}
 use Rattle.promise.specs.Only.{OnlyOne}
-use Rattle.promise.proofs.Laws.{equation-only}
+use Rattle.promise.proofs.Laws.{equation_only}
 use Rattle.slave_answer.specs.declared.FrameAnswer.{FrameAnswer}
-use Rattle.slave_answer.specs.Answer.{frameNumber}
+use Rattle.slave_answer.specs.Answer.{frame_number}
 
-pub number-only : (answer : FrameAnswer) → OnlyOne (λ (r : ℕ). r ≡ frameNumber answer)
-number-only answer = equation-only _
+pub number_only : (answer : FrameAnswer) → OnlyOne (λ (r : ℕ). r ≡ frame_number answer)
+number_only answer = equation_only _

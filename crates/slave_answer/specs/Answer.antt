@@ -8,16 +8,16 @@ use Rattle.slave_answer.specs.declared.FrameAnswer.TheVariants.{SyncTaken, First
 use Rattle.slave_answer.specs.declared.FrameStep.{FrameStep}
 
 -- ---- "0 is success."
-abbrev pub frameNumber : FrameAnswer → ℕ
-frameNumber SyncTaken = 0
-frameNumber FirstTaken = 0
-frameNumber (Updated d) = 0
-frameNumber (Refused refusal) = number_of refusal
+abbrev pub frame_number : FrameAnswer → ℕ
+frame_number SyncTaken = 0
+frame_number FirstTaken = 0
+frame_number (Updated d) = 0
+frame_number (Refused refusal) = number_of refusal
 
 -- ---- "A refused call returns the number and zeros; state and lent bytes stay."
-abbrev pub refusedOf : Domain → Refusal → FrameStep
-refusedOf d refusal = record { answer = Refused refusal; domain = d }
+abbrev pub refused_of : Domain → Refusal → FrameStep
+refused_of d refusal = record { answer = Refused refusal; domain = d }
 
 -- ---- a refusal keeps the record, but for the exceptions
 abbrev pub Keeps : Domain → FrameStep → Type 0
-Keeps d r = StateStays (frameNumber r.answer) → r.domain ≡ d
+Keeps d r = StateStays (frame_number r.answer) → r.domain ≡ d

@@ -1,7 +1,7 @@
 // What a slave answers to a frame (paper 01, "Refusal numbers"), and the step of any frame: the answer, and the
 // record after it.
 ghost use Rattle.std.specs.Prelude.{◌≡◌};
-ghost use Rattle.slave_answer.specs.Answer.{frameNumber};
+ghost use Rattle.slave_answer.specs.Answer.{frame_number};
 
 use domain::Domain;
 use refusal::Refusal;
@@ -25,7 +25,7 @@ pub struct FrameStep {
 impl FrameAnswer {
     // The paper's number.
     pub fn number(self) -> u8
-        ensures { result ≡ frameNumber self }
+        ensures { result ≡ frame_number self }
     {
         match self {
             FrameAnswer::SyncTaken => 0,

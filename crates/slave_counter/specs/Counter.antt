@@ -9,13 +9,13 @@ use Rattle.slave_counter.specs.declared.CounterVerdict.{CounterVerdict}
 use Rattle.slave_counter.specs.declared.CounterVerdict.TheVariants.{Free, Good, NotGood}
 
 -- ---- "(new minus last) modulo 16"
-abbrev pub jumpOf : (last new : ℕ) → ℕ
-jumpOf last new = (new % counters + counters - last % counters) % counters
+abbrev pub jump_of : (last new : ℕ) → ℕ
+jump_of last new = (new % counters + counters - last % counters) % counters
 
 -- ---- "if no counter is known, or more than L has passed since the SYNC last accepted, any counter is
 -- good. Otherwise (new minus last) modulo 16 must be 1 to J."
-abbrev pub verdictOf : (j l : ℕ) → LastSync → ℕ → VirtualLocalTime → CounterVerdict
-verdictOf j l Unknown new t = Free
-verdictOf j l (Seen last row at) new t =
+abbrev pub verdict_of : (j l : ℕ) → LastSync → ℕ → VirtualLocalTime → CounterVerdict
+verdict_of j l Unknown new t = Free
+verdict_of j l (Seen last row at) new t =
     cond (ltb l (span_of at t)) Free
-    (cond (leb 1 (jumpOf last new) && leb (jumpOf last new) j) Good NotGood)
+    (cond (leb 1 (jump_of last new) && leb (jump_of last new) j) Good NotGood)

@@ -21,11 +21,11 @@ abbrev pub reached : (h row : ℕ) → RowCheck
 reached h row = cond (ltb row h) (Joins row) (Complete h)
 
 -- ---- "a refused counter during the row sets it to 0": one that is complete stays
-abbrev pub rowRefused : (h row : ℕ) → ℕ
-rowRefused h row = cond (ltb row h) 0 row
+abbrev pub row_refused : (h row : ℕ) → ℕ
+row_refused h row = cond (ltb row h) 0 row
 
 -- ---- "after the counter was unknown or forgotten, H further SYNC frames in a row with a good counter must come"
-abbrev pub checkedOf : (h row : ℕ) → CounterVerdict → RowCheck
-checkedOf h row Free = reached h 0
-checkedOf h row Good = reached h (row + 1)
-checkedOf h row NotGood = not-Good (rowRefused h row)
+abbrev pub checked_of : (h row : ℕ) → CounterVerdict → RowCheck
+checked_of h row Free = reached h 0
+checked_of h row Good = reached h (row + 1)
+checked_of h row NotGood = not-Good (row_refused h row)

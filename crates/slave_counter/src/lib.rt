@@ -1,8 +1,8 @@
 // The counter check of a SYNC (paper 01, "A slave's domain", and paper 02, request 5): whether its counter is good,
 // and whether the row of good ones is complete.
 ghost use Rattle.std.specs.Prelude.{◌≡◌};
-ghost use Rattle.slave_counter.specs.Counter.{verdictOf};
-ghost use Rattle.slave_counter.specs.Row.{row_of, with_row, reached, checkedOf};
+ghost use Rattle.slave_counter.specs.Counter.{verdict_of};
+ghost use Rattle.slave_counter.specs.Row.{row_of, with_row, reached, checked_of};
 
 use clock::VirtualLocalTime;
 use domain::LastSync;
@@ -33,7 +33,7 @@ pub fn judge_counter(
     new: u8,
     t: VirtualLocalTime,
 ) -> CounterVerdict
-    ensures { result ≡ verdictOf jump_width loss_time last new t }
+    ensures { result ≡ verdict_of jump_width loss_time last new t }
 {
     match last {
         LastSync::Unknown => CounterVerdict::Free,
@@ -88,7 +88,7 @@ pub fn with_row(last: LastSync, row: u8) -> LastSync
 // A first SYNC begins the row, a good one makes it one more, and one that is not good sets it to 0 unless it was
 // complete.
 pub fn check_row(hysteresis: u8, row: u8, verdict: CounterVerdict) -> RowCheck
-    ensures { result ≡ checkedOf hysteresis row verdict }
+    ensures { result ≡ checked_of hysteresis row verdict }
 {
     match verdict {
         CounterVerdict::Free => reached_by(hysteresis, 0),

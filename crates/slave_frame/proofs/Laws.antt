@@ -12,14 +12,14 @@ use Rattle.frame_check.specs.Check.{is_taken}
 use Rattle.domain.specs.declared.Domain.{Domain}
 use Rattle.slave_frame.specs.Step.{kind_of, frame_of}
 use Rattle.slave_answer.specs.Answer.{Keeps}
-use Rattle.slave_sync.proofs.Laws.{refusal-keeps_sync}
-use Rattle.slave_fup.proofs.Laws.{refusal-keeps-fup}
+use Rattle.slave_sync.proofs.Laws.{refusal_keeps_sync}
+use Rattle.slave_fup.proofs.Laws.{refusal_keeps_fup}
 
-kind-keeps : (v : Frame) (d : Domain) (t : VirtualLocalTime) → Keeps d (kind_of d t v)
-kind-keeps (sync s) d t = refusal-keeps_sync d t s
-kind-keeps (fup f) d t = λ (none, six, fifteen). refusal-keeps-fup d t f none
+kind_keeps : (v : Frame) (d : Domain) (t : VirtualLocalTime) → Keeps d (kind_of d t v)
+kind_keeps (sync s) d t = refusal_keeps_sync d t s
+kind_keeps (fup f) d t = λ (none, six, fifteen). refusal_keeps_fup d t f none
 
-pub refusal-keeps-frame :
+pub refusal_keeps_frame :
     (d : Domain) (t : VirtualLocalTime) (bytes : List ℕ) (values : Frame) → Keeps d (frame_of d t bytes values)
-refusal-keeps-frame d t bytes values =
-    either (Keeps d) (is_taken d.settings.mode d.settings.ids bytes) (kind-keeps values d t) (λ e. refl)
+refusal_keeps_frame d t bytes values =
+    either (Keeps d) (is_taken d.settings.mode d.settings.ids bytes) (kind_keeps values d t) (λ e. refl)

@@ -8,14 +8,14 @@ use Rattle.frame_check.specs.Check.{is_taken}
 use Rattle.refusal.specs.declared.Refusal.TheVariants.{Check}
 use Rattle.domain.specs.declared.Domain.{Domain}
 use Rattle.slave_answer.specs.declared.FrameStep.{FrameStep}
-use Rattle.slave_answer.specs.Answer.{refusedOf}
-use Rattle.slave_sync.specs.Sync.{syncOf}
-use Rattle.slave_fup.specs.Fup.{fupOf}
+use Rattle.slave_answer.specs.Answer.{refused_of}
+use Rattle.slave_sync.specs.Sync.{sync_of}
+use Rattle.slave_fup.specs.Fup.{fup_of}
 
 abbrev pub kind_of : Domain → VirtualLocalTime → Frame → FrameStep
-kind_of d t (sync s) = syncOf d t s
-kind_of d t (fup f) = fupOf d t f
+kind_of d t (sync s) = sync_of d t s
+kind_of d t (fup f) = fup_of d t f
 
 abbrev pub frame_of : Domain → VirtualLocalTime → List ℕ → Frame → FrameStep
 frame_of d t bytes values =
-    cond (is_taken d.settings.mode d.settings.ids bytes) (kind_of d t values) (refusedOf d Check)
+    cond (is_taken d.settings.mode d.settings.ids bytes) (kind_of d t values) (refused_of d Check)

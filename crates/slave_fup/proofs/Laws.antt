@@ -10,33 +10,33 @@ use Rattle.domain.specs.declared.Domain.{Domain}
 use Rattle.domain.specs.declared.Pairing.TheVariants.{Waiting}
 use Rattle.slave_pair.specs.declared.joining.Joined.{Joined}
 use Rattle.slave_pair.specs.declared.joining.Joined.TheVariants.{With, Refused}
-use Rattle.slave_answer.specs.Answer.{frameNumber}
-use Rattle.slave_pair.specs.Join.{joinedOf}
-use Rattle.slave_pair.proofs.Laws.{by-joined}
-use Rattle.slave_update.specs.Update.{newBase}
-use Rattle.slave_update.proofs.Laws.{update-taken}
+use Rattle.slave_answer.specs.Answer.{frame_number}
+use Rattle.slave_pair.specs.Join.{joined_of}
+use Rattle.slave_pair.proofs.Laws.{by_joined}
+use Rattle.slave_update.specs.Update.{new_base}
+use Rattle.slave_update.proofs.Laws.{update_taken}
 use Rattle.slave_answer.specs.declared.FrameStep.{FrameStep}
-use Rattle.slave_fup.specs.Fup.{fupAs, fupOf}
+use Rattle.slave_fup.specs.Fup.{fup_as, fup_of}
 
 -- ---- a refusal keeps the record
 
 abbrev RefusalKeeps : Domain → FrameStep → Type 0
-RefusalKeeps d r = (frameNumber r.answer ≡ 0 → ⊥) → r.domain ≡ d
+RefusalKeeps d r = (frame_number r.answer ≡ 0 → ⊥) → r.domain ≡ d
 
-as-keeps : (j : Joined) (d : Domain) (f : Fup) → RefusalKeeps d (fupAs j d f)
-as-keeps (Refused refusal) d f = λ e. refl
-as-keeps (With p) d f = λ e. absurd (e (update-taken _ _ _ _ d.base (newBase p f)))
+as_keeps : (j : Joined) (d : Domain) (f : Fup) → RefusalKeeps d (fup_as j d f)
+as_keeps (Refused refusal) d f = λ e. refl
+as_keeps (With p) d f = λ e. absurd (e (update_taken _ _ _ _ d.base (new_base p f)))
 
-pub refusal-keeps-fup : (d : Domain) (t : VirtualLocalTime) (f : Fup) → RefusalKeeps d (fupOf d t f)
-refusal-keeps-fup d t f = as-keeps (joinedOf d.settings.follow_up_time d.pairing t f) d f
+pub refusal_keeps_fup : (d : Domain) (t : VirtualLocalTime) (f : Fup) → RefusalKeeps d (fup_of d t f)
+refusal_keeps_fup d t f = as_keeps (joined_of d.settings.follow_up_time d.pairing t f) d f
 
 -- ---- what a FUP does
 
-pub fup-closes :
-    (d : Domain) (t : VirtualLocalTime) (f : Fup) → frameNumber (fupOf d t f).answer ≡ 0 →
-    (fupOf d t f).domain.pairing ≡ Waiting
-fup-closes d t f =
-    by-joined
-    (λ (j : Joined). frameNumber (fupAs j d f).answer ≡ 0 → (fupAs j d f).domain.pairing ≡ Waiting)
+pub fup_closes :
+    (d : Domain) (t : VirtualLocalTime) (f : Fup) → frame_number (fup_of d t f).answer ≡ 0 →
+    (fup_of d t f).domain.pairing ≡ Waiting
+fup_closes d t f =
+    by_joined
+    (λ (j : Joined). frame_number (fup_as j d f).answer ≡ 0 → (fup_as j d f).domain.pairing ≡ Waiting)
     d.settings.follow_up_time d.pairing t f (λ e. absurd (omega arith)) (λ e. absurd (omega arith))
     (λ e. absurd (omega arith)) (λ p told e. refl)

@@ -3,12 +3,12 @@
 -- Assumes nothing.
 use mathlib.Core.Path.{◌≡◌}
 use Rattle.promise.specs.Only.{OnlyOne}
-use Rattle.promise.proofs.Laws.{equation-only}
+use Rattle.promise.proofs.Laws.{equation_only}
 use Rattle.clock.specs.declared.reading.VirtualLocalTime.{VirtualLocalTime}
 use Rattle.frame.specs.declared.values.Fup.{Fup}
 use Rattle.domain.specs.declared.Domain.{Domain}
 use Rattle.slave_answer.specs.declared.FrameStep.{FrameStep}
-use Rattle.slave_fup.specs.Fup.{fupOf}
+use Rattle.slave_fup.specs.Fup.{fup_of}
 
-pub take-fup-only : (d : Domain) (t : VirtualLocalTime) (f : Fup) → OnlyOne (λ (r : FrameStep). r ≡ fupOf d t f)
-take-fup-only d t f = equation-only _
+pub take_fup_only : (d : Domain) (t : VirtualLocalTime) (f : Fup) → OnlyOne (λ (r : FrameStep). r ≡ fup_of d t f)
+take_fup_only d t f = equation_only _

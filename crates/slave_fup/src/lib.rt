@@ -1,7 +1,7 @@
 // A FUP on a slave's record (paper 01, "A slave's domain"): it answers, and gives the record back by
 // value, as it was where it refuses. Roles are not looked at here: the node asks the right record.
 ghost use Rattle.std.specs.Prelude.{◌≡◌};
-ghost use Rattle.slave_fup.specs.Fup.{fupOf};
+ghost use Rattle.slave_fup.specs.Fup.{fup_of};
 
 use clock::{Held, VirtualLocalTime};
 use domain::{Domain, Pairing, next_update};
@@ -13,7 +13,7 @@ use slave_update::{new_base, update_by};
 
 // A FUP that was not refused before 7: it moves the base and closes its pair, or is refused by 7, 8, 9.
 pub fn take_fup(domain: Domain, t: VirtualLocalTime, fup: Fup) -> FrameStep
-    ensures { result ≡ fupOf domain t fup }
+    ensures { result ≡ fup_of domain t fup }
 {
     let settings = domain.settings;
     let pairing = domain.pairing;

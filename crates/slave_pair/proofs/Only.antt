@@ -4,7 +4,7 @@
 use Prim.Native.Nat.{ℕ}
 use mathlib.Core.Path.{◌≡◌}
 use Rattle.promise.specs.Only.{OnlyOne}
-use Rattle.promise.proofs.Laws.{equation-only}
+use Rattle.promise.proofs.Laws.{equation_only}
 use Rattle.clock.specs.declared.reading.VirtualLocalTime.{VirtualLocalTime}
 use Rattle.frame.specs.declared.values.Protection.{Protection}
 use Rattle.frame.specs.declared.values.Sync.{Sync}
@@ -12,15 +12,15 @@ use Rattle.frame.specs.declared.values.Fup.{Fup}
 use Rattle.domain.specs.declared.Pair.{Pair}
 use Rattle.domain.specs.declared.Pairing.{Pairing}
 use Rattle.slave_pair.specs.declared.joining.Joined.{Joined}
-use Rattle.slave_pair.specs.Pair.{userIn, pair_of}
-use Rattle.slave_pair.specs.Join.{joinedOf}
+use Rattle.slave_pair.specs.Pair.{user_in, pair_of}
+use Rattle.slave_pair.specs.Join.{joined_of}
 
-pub user-in-only : (p : Protection) → OnlyOne (λ (r : ℕ). r ≡ userIn p)
-user-in-only p = equation-only _
+pub user_in_only : (p : Protection) → OnlyOne (λ (r : ℕ). r ≡ user_in p)
+user_in_only p = equation_only _
 
-pub pair-of-only : (t : VirtualLocalTime) (s : Sync) → OnlyOne (λ (r : Pair). r ≡ pair_of t s)
-pair-of-only t s = equation-only _
+pub pair_of_only : (t : VirtualLocalTime) (s : Sync) → OnlyOne (λ (r : Pair). r ≡ pair_of t s)
+pair_of_only t s = equation_only _
 
-pub join-only :
-    (f : ℕ) (p : Pairing) (t : VirtualLocalTime) (fup : Fup) → OnlyOne (λ (r : Joined). r ≡ joinedOf f p t fup)
-join-only f p t fup = equation-only _
+pub join_only :
+    (f : ℕ) (p : Pairing) (t : VirtualLocalTime) (fup : Fup) → OnlyOne (λ (r : Joined). r ≡ joined_of f p t fup)
+join_only f p t fup = equation_only _

@@ -2,7 +2,7 @@
 use Rattle.std.specs.Prelude.{ℕ, Bool, not, cond, ltb, eqb}
 use Rattle.clock.specs.declared.reading.VirtualLocalTime.{VirtualLocalTime}
 use Rattle.clock.specs.Reading.{span_of}
-use Rattle.clock.specs.Time.{isNanoseconds}
+use Rattle.clock.specs.Time.{is_nanoseconds}
 use Rattle.frame.specs.declared.values.Fup.{Fup}
 use Rattle.refusal.specs.declared.Refusal.TheVariants.{NoOpenPair, FupCounter, Nanoseconds}
 use Rattle.domain.specs.declared.Pair.{Pair}
@@ -13,19 +13,19 @@ use Rattle.slave_pair.specs.declared.joining.Joined.TheVariants.{With, Refused}
 
 -- ---- "a pair must be open", and one "older than F counts as not open"; "the counter must be the
 -- pair's, the nanoseconds must be in range": 7, 8, 9
-abbrev pub isOld : (f : ℕ) → Pair → VirtualLocalTime → Bool
-isOld f p t = ltb f (span_of p.at t)
+abbrev pub is_old : (f : ℕ) → Pair → VirtualLocalTime → Bool
+is_old f p t = ltb f (span_of p.at t)
 
-abbrev pub isOther : Pair → Fup → Bool
-isOther p fup = not (eqb fup.counter p.counter)
+abbrev pub is_other : Pair → Fup → Bool
+is_other p fup = not (eqb fup.counter p.counter)
 
-abbrev pub isAbove : Fup → Bool
-isAbove fup = not (isNanoseconds fup.nanoseconds)
+abbrev pub is_above : Fup → Bool
+is_above fup = not (is_nanoseconds fup.nanoseconds)
 
-abbrev pub joinedOf : (f : ℕ) → Pairing → VirtualLocalTime → Fup → Joined
-joinedOf f Waiting t fup = Refused NoOpenPair
-joinedOf f (Open p) t fup =
-    cond (isOld f p t) (Refused NoOpenPair)
-    (cond (isOther p fup) (Refused FupCounter)
-    (cond (isAbove fup) (Refused Nanoseconds)
+abbrev pub joined_of : (f : ℕ) → Pairing → VirtualLocalTime → Fup → Joined
+joined_of f Waiting t fup = Refused NoOpenPair
+joined_of f (Open p) t fup =
+    cond (is_old f p t) (Refused NoOpenPair)
+    (cond (is_other p fup) (Refused FupCounter)
+    (cond (is_above fup) (Refused Nanoseconds)
     (With p)))

@@ -7,9 +7,9 @@ use Rattle.frame.specs.declared.values.Protection.TheVariants.{Plain, Secured}
 use Rattle.domain.specs.declared.Pair.{Pair}
 
 -- ---- "one that the frame kind doesn't carry reads 0"
-abbrev pub userIn : Protection → ℕ
-userIn (Plain user) = user
-userIn Secured = 0
+abbrev pub user_in : Protection → ℕ
+user_in (Plain user) = user
+user_in Secured = 0
 
 -- ---- "an open pair that carries the SYNC's counter, seconds, user bytes and reading T2"
 abbrev pub pair_of : VirtualLocalTime → Sync → Pair
@@ -19,5 +19,5 @@ pair_of t s =
       seconds = s.seconds;
       counter = s.counter;
       user0 = s.user0;
-      user1 = userIn s.protection;
+      user1 = user_in s.protection;
     }

@@ -1,6 +1,6 @@
 // A FUP and the pair it is to join (paper 01, "A slave's domain").
 ghost use Rattle.std.specs.Prelude.{◌≡◌};
-ghost use Rattle.slave_pair.specs.Join.{joinedOf};
+ghost use Rattle.slave_pair.specs.Join.{joined_of};
 
 use clock::{GlobalTime, VirtualLocalTime};
 use domain::{Pair, Pairing};
@@ -15,7 +15,7 @@ pub enum Joined {
 }
 
 pub fn join(follow_up_time: u64, pairing: Pairing, t: VirtualLocalTime, fup: Fup) -> Joined
-    ensures { result ≡ joinedOf follow_up_time pairing t fup }
+    ensures { result ≡ joined_of follow_up_time pairing t fup }
 {
     let Pairing::Open(pair) = pairing else {
         return Joined::Refused(Refusal::NoOpenPair);

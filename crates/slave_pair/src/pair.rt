@@ -1,6 +1,6 @@
 // The pair that a SYNC opens (paper 01, "A slave's domain").
 ghost use Rattle.std.specs.Prelude.{◌≡◌};
-ghost use Rattle.slave_pair.specs.Pair.{userIn, pair_of};
+ghost use Rattle.slave_pair.specs.Pair.{user_in, pair_of};
 
 use clock::VirtualLocalTime;
 use domain::Pair;
@@ -22,7 +22,7 @@ pub fn pair_of(t: VirtualLocalTime, sync: Sync) -> Pair
 
 // The user byte that byte 1 of a frame carries: 0 in a secured one, which carries none.
 pub fn user_in(protection: Protection) -> u8
-    ensures { result ≡ userIn protection }
+    ensures { result ≡ user_in protection }
 {
     match protection {
         Protection::Plain(user) => user,

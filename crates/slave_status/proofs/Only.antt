@@ -5,17 +5,17 @@ use Prim.Native.Nat.{ℕ}
 use mathlib.Core.Path.{◌≡◌}
 use mathlib.Core.Bool.{Bool}
 use Rattle.promise.specs.Only.{OnlyOne}
-use Rattle.promise.proofs.Laws.{equation-only}
+use Rattle.promise.proofs.Laws.{equation_only}
 use Rattle.clock.specs.declared.reading.VirtualLocalTime.{VirtualLocalTime}
 use Rattle.clock.specs.declared.base.Held.{Held}
 use Rattle.domain.specs.declared.Domain.{Domain}
 use Rattle.domain.specs.declared.Leap.{Leap}
-use Rattle.slave_status.specs.Status.{statusBits, statusOf}
+use Rattle.slave_status.specs.Status.{status_bits, status_of}
 
-pub status-of-only :
+pub status_of_only :
     (l : ℕ) (base : Held) (sgw : Bool) (leap : Leap) (t : VirtualLocalTime) →
-    OnlyOne (λ (r : ℕ). r ≡ statusBits l base sgw leap t)
-status-of-only l base sgw leap t = equation-only _
+    OnlyOne (λ (r : ℕ). r ≡ status_bits l base sgw leap t)
+status_of_only l base sgw leap t = equation_only _
 
-pub status-at-only : (d : Domain) (t : VirtualLocalTime) → OnlyOne (λ (r : ℕ). r ≡ statusOf d t)
-status-at-only d t = equation-only _
+pub status_at_only : (d : Domain) (t : VirtualLocalTime) → OnlyOne (λ (r : ℕ). r ≡ status_of d t)
+status_at_only d t = equation_only _

@@ -10,22 +10,22 @@ use Rattle.domain.specs.declared.Leap.TheVariants.{None, Future, Past}
 
 -- ---- "0x08 GLOBAL_TIME_BASE (base set)"; "TIMEOUT", 0x01, "shows on a slave whose base is set when
 -- the reading is more than L after the base's T2"
-abbrev pub baseBits : (l : ℕ) → Held → VirtualLocalTime → ℕ
-baseBits l Unset t = 0
-baseBits l (Set b) t = cond (ltb l (span_of b.at t)) (0x08 + 0x01) 0x08
+abbrev pub base_bits : (l : ℕ) → Held → VirtualLocalTime → ℕ
+base_bits l Unset t = 0
+base_bits l (Set b) t = cond (ltb l (span_of b.at t)) (0x08 + 0x01) 0x08
 
 -- ---- "0x04 SYNC_TO_GATEWAY (the SGW of the last FUP taken)"
-abbrev pub gatewayBit : Bool → ℕ
-gatewayBit sgw = cond sgw 0x04 0
+abbrev pub gateway_bit : Bool → ℕ
+gateway_bit sgw = cond sgw 0x04 0
 
 -- ---- "0x10 TIMELEAP_FUTURE, 0x20 TIMELEAP_PAST"
-abbrev pub leapBits : Leap → ℕ
-leapBits None = 0
-leapBits (Future run) = 0x10
-leapBits (Past run) = 0x20
+abbrev pub leap_bits : Leap → ℕ
+leap_bits None = 0
+leap_bits (Future run) = 0x10
+leap_bits (Past run) = 0x20
 
-abbrev pub statusBits : (l : ℕ) → Held → Bool → Leap → VirtualLocalTime → ℕ
-statusBits l base sgw leap t = baseBits l base t + gatewayBit sgw + leapBits leap
+abbrev pub status_bits : (l : ℕ) → Held → Bool → Leap → VirtualLocalTime → ℕ
+status_bits l base sgw leap t = base_bits l base t + gateway_bit sgw + leap_bits leap
 
-abbrev pub statusOf : Domain → VirtualLocalTime → ℕ
-statusOf d t = statusBits d.settings.loss_time d.base d.sgw d.leap t
+abbrev pub status_of : Domain → VirtualLocalTime → ℕ
+status_of d t = status_bits d.settings.loss_time d.base d.sgw d.leap t

@@ -2,11 +2,11 @@
 // not looked at here: the node asks the right record.
 ghost use Rattle.std.specs.Prelude.{◌≤◌, ◌≡◌};
 ghost use Rattle.slave_status.specs.Status.{
-  baseBits,
-  gatewayBit,
-  leapBits,
-  statusBits,
-  statusOf,
+  base_bits,
+  gateway_bit,
+  leap_bits,
+  status_bits,
+  status_of,
 };
 
 use clock::{Held, VirtualLocalTime};
@@ -24,7 +24,7 @@ pub const TIMELEAP_FUTURE: u8 = 0x10;
 pub const TIMELEAP_PAST: u8 = 0x20;
 
 pub fn status_at(domain: Domain, t: VirtualLocalTime) -> u8
-    ensures { result ≡ statusOf domain t }
+    ensures { result ≡ status_of domain t }
 {
     let base = domain.base;
     let leap = domain.leap;
@@ -33,13 +33,13 @@ pub fn status_at(domain: Domain, t: VirtualLocalTime) -> u8
 
 // The status, from the base, the SGW and the leap that are stored.
 pub fn status_of(loss_time: u64, base: Held, sgw: bool, leap: Leap, t: VirtualLocalTime) -> u8
-    ensures { result ≡ statusBits loss_time base sgw leap t }
+    ensures { result ≡ status_bits loss_time base sgw leap t }
 {
     base_bits(loss_time, base, t) + gateway_bit(sgw) + leap_bits(leap)
 }
 
 fn base_bits(loss_time: u64, base: Held, t: VirtualLocalTime) -> u8
-    ensures { (result ≡ baseBits loss_time base t) × (result ≤ 0x09) }
+    ensures { (result ≡ base_bits loss_time base t) × (result ≤ 0x09) }
 {
     match base {
         Held::Unset => 0,
@@ -55,13 +55,13 @@ fn base_bits(loss_time: u64, base: Held, t: VirtualLocalTime) -> u8
 }
 
 fn gateway_bit(sgw: bool) -> u8
-    ensures { (result ≡ gatewayBit sgw) × (result ≤ 0x04) }
+    ensures { (result ≡ gateway_bit sgw) × (result ≤ 0x04) }
 {
     if sgw { SYNC_TO_GATEWAY } else { 0 }
 }
 
 fn leap_bits(leap: Leap) -> u8
-    ensures { (result ≡ leapBits leap) × (result ≤ 0x20) }
+    ensures { (result ≡ leap_bits leap) × (result ≤ 0x20) }
 {
     match leap {
         Leap::None => 0,

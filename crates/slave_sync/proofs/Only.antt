@@ -3,12 +3,12 @@
 -- Assumes nothing.
 use mathlib.Core.Path.{◌≡◌}
 use Rattle.promise.specs.Only.{OnlyOne}
-use Rattle.promise.proofs.Laws.{equation-only}
+use Rattle.promise.proofs.Laws.{equation_only}
 use Rattle.clock.specs.declared.reading.VirtualLocalTime.{VirtualLocalTime}
 use Rattle.frame.specs.declared.values.Sync.{Sync}
 use Rattle.domain.specs.declared.Domain.{Domain}
 use Rattle.slave_answer.specs.declared.FrameStep.{FrameStep}
-use Rattle.slave_sync.specs.Sync.{syncOf}
+use Rattle.slave_sync.specs.Sync.{sync_of}
 
-pub take-sync-only : (d : Domain) (t : VirtualLocalTime) (s : Sync) → OnlyOne (λ (r : FrameStep). r ≡ syncOf d t s)
-take-sync-only d t s = equation-only _
+pub take_sync_only : (d : Domain) (t : VirtualLocalTime) (s : Sync) → OnlyOne (λ (r : FrameStep). r ≡ sync_of d t s)
+take_sync_only d t s = equation_only _

@@ -1,8 +1,8 @@
 // A SYNC on a slave's record (paper 01, "A slave's domain", and paper 02, request 5): it answers, and gives the record
 // back by value. Roles are not looked at here: the node asks the right record.
 ghost use Rattle.std.specs.Prelude.{◌≡◌};
-ghost use Rattle.domain.specs.Fields.{withPairing, with_last};
-ghost use Rattle.slave_sync.specs.Sync.{syncOf};
+ghost use Rattle.domain.specs.Fields.{with_pairing, with_last};
+ghost use Rattle.slave_sync.specs.Sync.{sync_of};
 
 use clock::VirtualLocalTime;
 use domain::{Domain, LastSync, Pairing};
@@ -16,7 +16,7 @@ use slave_pair::pair_of;
 // not complete it becomes the last, and is refused by 15; where its counter is not good it is refused by 6, and the row
 // begins anew unless it was complete.
 pub fn take_sync(domain: Domain, t: VirtualLocalTime, sync: Sync) -> FrameStep
-    ensures { result ≡ syncOf domain t sync }
+    ensures { result ≡ sync_of domain t sync }
 {
     let settings = domain.settings;
     let last = domain.last;
@@ -62,7 +62,7 @@ pub fn take_sync(domain: Domain, t: VirtualLocalTime, sync: Sync) -> FrameStep
 
 // The record with what a SYNC may change of it.
 fn listened(domain: Domain, pairing: Pairing, last: LastSync) -> Domain
-    ensures { result ≡ with_last (withPairing domain pairing) last }
+    ensures { result ≡ with_last (with_pairing domain pairing) last }
 {
     let settings = domain.settings;
     let base = domain.base;

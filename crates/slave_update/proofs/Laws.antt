@@ -15,21 +15,21 @@ use Rattle.clock.specs.Time.{IsReceived}
 use Rattle.frame.specs.declared.values.Fup.{Fup}
 use Rattle.domain.specs.declared.Leap.{Leap}
 use Rattle.domain.specs.declared.Pair.{Pair}
-use Rattle.slave_answer.specs.Answer.{frameNumber}
-use Rattle.slave_update.specs.Leap.{isFuture, isPast}
-use Rattle.slave_update.specs.Update.{newBase, updateOf}
+use Rattle.slave_answer.specs.Answer.{frame_number}
+use Rattle.slave_update.specs.Leap.{is_future, is_past}
+use Rattle.slave_update.specs.Update.{new_base, update_of}
 
-pub received-bound :
+pub received_bound :
     (p : Pair) (f : Fup) → p.seconds ≤ 4294967295 → f.ovs ≤ 3 → f.nanoseconds ≤ 999999999 →
-    IsReceived (newBase p f).time
-received-bound p f hs ho hn = omega arith
+    IsReceived (new_base p f).time
+received_bound p f hs ho hn = omega arith
 
-pub leap-exclusive : (future past : ℕ) (d : ℤ) → isFuture future d ≡ true → isPast past d ≡ false
-leap-exclusive future past (pos m) e = simp (and-false)
-leap-exclusive future past (negsuc m) e = absurd (false≢true (simp (and-false) at e))
+pub leap_exclusive : (future past : ℕ) (d : ℤ) → is_future future d ≡ true → is_past past d ≡ false
+leap_exclusive future past (pos m) e = simp (and-false)
+leap_exclusive future past (negsuc m) e = absurd (false≢true (simp (and-false) at e))
 
-pub update-taken :
+pub update_taken :
     (future past count : ℕ) (held : Leap) (b : Held) (new : TimeBase) →
-    frameNumber (updateOf future past count held b new).answer ≡ 0
-update-taken future past count held Unset new = refl
-update-taken future past count held (Set old) new = refl
+    frame_number (update_of future past count held b new).answer ≡ 0
+update_taken future past count held Unset new = refl
+update_taken future past count held (Set old) new = refl

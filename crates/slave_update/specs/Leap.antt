@@ -1,16 +1,16 @@
 -- Paper 01, "A slave's domain": the leap bits; and paper 02, request 3: how long they show. Assumes nothing.
 use Rattle.std.specs.Prelude.{ℕ, ◌+◌, Bool, not, cond, ◌&&◌, eqb, ltb, ℤ}
-use Rattle.clock.specs.Difference.{exceeds, minusExceeds}
+use Rattle.clock.specs.Difference.{exceeds, minus_exceeds}
 use Rattle.domain.specs.declared.Leap.{Leap}
 use Rattle.domain.specs.declared.Leap.TheVariants.{None, Future, Past}
 
 -- ---- "FUTURE is set exactly if its threshold is not 0 and D exceeds it, PAST exactly if its threshold
 -- is not 0 and minus D exceeds it"
-abbrev pub isFuture : (threshold : ℕ) → ℤ → Bool
-isFuture threshold d = not (eqb threshold 0) && exceeds d threshold
+abbrev pub is_future : (threshold : ℕ) → ℤ → Bool
+is_future threshold d = not (eqb threshold 0) && exceeds d threshold
 
-abbrev pub isPast : (threshold : ℕ) → ℤ → Bool
-isPast threshold d = not (eqb threshold 0) && minusExceeds d threshold
+abbrev pub is_past : (threshold : ℕ) → ℤ → Bool
+is_past threshold d = not (eqb threshold 0) && minus_exceeds d threshold
 
 -- ---- Request 3: "that many updates in a row must lie within both thresholds (0 always counts) first". The leap held,
 -- after one more of them.
@@ -20,6 +20,6 @@ calmer count (Future run) = cond (ltb (run + 1) count) (Future (run + 1)) None
 calmer count (Past run) = cond (ltb (run + 1) count) (Past (run + 1)) None
 
 -- ---- "a leap sets its own bit, clears the other and sets the run to 0". The leap after any update, by its D.
-abbrev pub leapAfter : (future past count : ℕ) → Leap → ℤ → Leap
-leapAfter future past count held d =
-    cond (isFuture future d) (Future 0) (cond (isPast past d) (Past 0) (calmer count held))
+abbrev pub leap_after : (future past count : ℕ) → Leap → ℤ → Leap
+leap_after future past count held d =
+    cond (is_future future d) (Future 0) (cond (is_past past d) (Past 0) (calmer count held))

@@ -3,23 +3,23 @@ use Rattle.std.specs.Prelude.{ℕ, ◌≡◌, cond, ℤ}
 use mathlib.Core.List.{List, [], ◌∷◌, foldl}
 use Rattle.domain.specs.declared.Leap.{Leap}
 use Rattle.domain.specs.declared.Leap.TheVariants.{None, Future, Past}
-use Rattle.slave_update.specs.Leap.{isFuture, isPast, leapAfter}
+use Rattle.slave_update.specs.Leap.{is_future, is_past, leap_after}
 
 -- ---- Paper 01: "otherwise each is cleared", whatever was held. The leap that D is.
-abbrev pub leapOf : (future past : ℕ) → ℤ → Leap
-leapOf future past d = cond (isFuture future d) (Future 0) (cond (isPast past d) (Past 0) None)
+abbrev pub leap_of : (future past : ℕ) → ℤ → Leap
+leap_of future past d = cond (is_future future d) (Future 0) (cond (is_past past d) (Past 0) None)
 
 -- ---- "within both thresholds": an update by D, and every one of a row.
 abbrev pub Within : (future past : ℕ) → ℤ → Type 0
-Within future past d = leapOf future past d ≡ None
+Within future past d = leap_of future past d ≡ None
 
 abbrev pub AllWithin : (future past : ℕ) → List ℤ → Type 0
 AllWithin future past [] = Unit {0}
 AllWithin future past (d ∷ row) = Within future past d × AllWithin future past row
 
 -- ---- The leap after updates one after another, by their D.
-abbrev pub leapAfterAll : (future past count : ℕ) → Leap → List ℤ → Leap
-leapAfterAll future past count = foldl (leapAfter future past count)
+abbrev pub leap_after_all : (future past count : ℕ) → Leap → List ℤ → Leap
+leap_after_all future past count = foldl (leap_after future past count)
 
 -- ---- The same bit with another run.
 abbrev pub with_run : Leap → (run : ℕ) → Leap

@@ -1,13 +1,13 @@
 // The leap bits after an update (paper 01, "A slave's domain", and paper 02, request 3).
 ghost use Rattle.std.specs.Prelude.{◌+◌, ◌≡◌, ltb};
-ghost use Rattle.slave_update.specs.Leap.{isFuture, isPast, calmer, leapAfter};
+ghost use Rattle.slave_update.specs.Leap.{is_future, is_past, calmer, leap_after};
 
 use domain::Leap;
 
 // The leap after an update by D: the one that D is, against the two thresholds, with a run of 0; or what is left of the
 // one held. A threshold of 0 is not checked.
 pub fn leap_after(future: u64, past: u64, count: u8, held: Leap, d: i64) -> Leap
-    ensures { result ≡ leapAfter future past count held d }
+    ensures { result ≡ leap_after future past count held d }
 {
     if is_future(future, d) {
         return Leap::Future(0);
@@ -49,7 +49,7 @@ fn goes_on(count: u8, run: u8) -> bool
 }
 
 fn is_future(threshold: u64, d: i64) -> bool
-    ensures { result ≡ isFuture threshold d }
+    ensures { result ≡ is_future threshold d }
 {
     if threshold == 0 {
         false
@@ -59,7 +59,7 @@ fn is_future(threshold: u64, d: i64) -> bool
 }
 
 fn is_past(threshold: u64, d: i64) -> bool
-    ensures { result ≡ isPast threshold d }
+    ensures { result ≡ is_past threshold d }
 {
     if threshold == 0 {
         false

@@ -1,6 +1,6 @@
 // What a pair and its FUP make of the base (paper 01, "A slave's domain").
 ghost use Rattle.std.specs.Prelude.{◌≡◌};
-ghost use Rattle.slave_update.specs.Update.{newBase, updateOf};
+ghost use Rattle.slave_update.specs.Update.{new_base, update_of};
 
 use crate::leap::leap_after;
 use clock::{GlobalTime, Held, TimeBase};
@@ -10,7 +10,7 @@ use slave_answer::FrameAnswer;
 
 // The base that a pair and its FUP give: the SYNC's seconds plus OVS, and the nanoseconds, at T2.
 pub fn new_base(pair: Pair, fup: Fup) -> TimeBase
-    ensures { result ≡ newBase pair fup }
+    ensures { result ≡ new_base pair fup }
 {
     let seconds = (pair.seconds as u64) + (fup.ovs as u64);
     let at = pair.at;
@@ -26,7 +26,7 @@ pub struct Update {
 
 // By the two thresholds and the count, from the leap and the base that are held.
 pub fn update_by(future: u64, past: u64, count: u8, held: Leap, old: Held, new: TimeBase) -> Update
-    ensures { result ≡ updateOf future past count held old new }
+    ensures { result ≡ update_of future past count held old new }
 {
     match old {
         Held::Unset => Update {

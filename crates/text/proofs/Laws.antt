@@ -6,19 +6,19 @@ use mathlib.Core.List.{List, [], ◌∷◌, ◌++◌}
 use lib.Dec.{ltb}
 use lib.ListN.{length, get_or, set, drop, length-set}
 use lib.Seq.{drop-cons}
-use Rattle.text.specs.Text.{Text, put, puts, Puts, hexByte, hexOf}
+use Rattle.text.specs.Text.{Text, put, puts, Puts, hex_byte, hex_of}
 
 -- ---- One text after another.
 
-pub puts-append : (xs ys : List ℕ) (t : Text) → puts (xs ++ ys) t ≡ puts ys (puts xs t)
+pub puts_append : (xs ys : List ℕ) (t : Text) → puts (xs ++ ys) t ≡ puts ys (puts xs t)
 unfolding puts
-puts-append [] ys t = refl
-puts-append (x ∷ xs) ys t = puts-append xs ys (put x t)
+puts_append [] ys t = refl
+puts_append (x ∷ xs) ys t = puts_append xs ys (put x t)
 
 pub then :
     {xs ys before middle after : List ℕ} {at place r : ℕ} →
     Puts xs at before place middle → Puts ys place middle r after → Puts (xs ++ ys) at before r after
-then {xs} {ys} e f = record { text = f.text ∙ ap (puts ys) e.text ∙ sym (puts-append xs ys _) }
+then {xs} {ys} e f = record { text = f.text ∙ ap (puts ys) e.text ∙ sym (puts_append xs ys _) }
 
 -- the same, where the text is known by another name
 pub named :
@@ -45,7 +45,7 @@ turn {xs} {rest} {before} {out} {whole} {at} {place} e f g =
     record {
       makes =
           ap (puts rest) f.text
-          ∙ sym (puts-append xs rest _)
+          ∙ sym (puts_append xs rest _)
           ∙ (subst (λ ys. Left ys place out whole at before) e g).makes;
     }
 
@@ -58,8 +58,8 @@ ended {before} {out} {whole} {at} {place} e g =
 
 -- ---- No byte is added or lost.
 
-put-length : (x : ℕ) (t : Text) → length (put x t).bytes ≡ length t.bytes
-put-length x t = go (ltb t.at (length t.bytes))
+put_length : (x : ℕ) (t : Text) → length (put x t).bytes ≡ length t.bytes
+put_length x t = go (ltb t.at (length t.bytes))
   where
     go :
         (b : Bool) →
@@ -67,17 +67,17 @@ put-length x t = go (ltb t.at (length t.bytes))
     go true = length-set t.bytes t.at x
     go false = refl
 
-puts-length : (xs : List ℕ) (t : Text) → length (puts xs t).bytes ≡ length t.bytes
+puts_length : (xs : List ℕ) (t : Text) → length (puts xs t).bytes ≡ length t.bytes
 unfolding puts
-puts-length [] t = refl
-puts-length (x ∷ xs) t = puts-length xs (put x t) ∙ put-length x t
+puts_length [] t = refl
+puts_length (x ∷ xs) t = puts_length xs (put x t) ∙ put_length x t
 
-pub length-kept :
+pub length_kept :
     {xs before after : List ℕ} {at r : ℕ} → Puts xs at before r after → length after ≡ length before
-length-kept {xs} e = ap (λ u. length u.bytes) e.text ∙ puts-length xs _
+length_kept {xs} e = ap (λ u. length u.bytes) e.text ∙ puts_length xs _
 
 -- ---- The bytes from i on, in hexadecimal digits.
-pub hex-cons :
+pub hex_cons :
     (bytes : List ℕ) (i : ℕ) → i < length bytes →
-    hexOf (drop i bytes) ≡ hexByte (get_or bytes i 0) ++ hexOf (drop (suc i) bytes)
-hex-cons bytes i h = ap hexOf (drop-cons bytes i 0 h)
+    hex_of (drop i bytes) ≡ hex_byte (get_or bytes i 0) ++ hex_of (drop (suc i) bytes)
+hex_cons bytes i h = ap hex_of (drop-cons bytes i 0 h)

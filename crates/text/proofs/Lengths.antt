@@ -6,12 +6,12 @@ use mathlib.Core.List.{List, [], ◌∷◌, ◌++◌}
 use native.Mathlib.Omega.{arith}
 use lib.Dec.{ltb}
 use lib.ListN.{length, length-append}
-use Rattle.text.specs.Text.{hexOf, digits, spelled, decimal}
+use Rattle.text.specs.Text.{hex_of, digits, spelled, decimal}
 
-spelled-length : (most n : ℕ) → length (spelled most n) ≤ most
+spelled_length : (most n : ℕ) → length (spelled most n) ≤ most
 unfolding spelled
-spelled-length zero n = omega arith
-spelled-length (suc most) n = go (ltb n 10) (spelled-length most (n / 10))
+spelled_length zero n = omega arith
+spelled_length (suc most) n = go (ltb n 10) (spelled_length most (n / 10))
   where
     go :
         (b : Bool) → length (spelled most (n / 10)) ≤ most →
@@ -19,18 +19,18 @@ spelled-length (suc most) n = go (ltb n 10) (spelled-length most (n / 10))
     go true h = omega arith
     go false h = omega (arith, length-append (spelled most (n / 10)) ((48 + n % 10) ∷ []))
 
-pub decimal-length : (n : ℕ) → length (decimal n) ≤ 20
-decimal-length n = spelled-length 20 n
+pub decimal_length : (n : ℕ) → length (decimal n) ≤ 20
+decimal_length n = spelled_length 20 n
 
-pub digits-length : (k n : ℕ) → length (digits k n) ≡ k
+pub digits_length : (k n : ℕ) → length (digits k n) ≡ k
 unfolding digits
-digits-length zero n = refl
-digits-length (suc k) n = ap suc (digits-length k n)
+digits_length zero n = refl
+digits_length (suc k) n = ap suc (digits_length k n)
 
-pub hex-length : (bytes : List ℕ) → length (hexOf bytes) ≡ 2 * length bytes
-hex-length [] = refl
-hex-length (b ∷ bytes) = omega (arith, hex-length bytes)
+pub hex_length : (bytes : List ℕ) → length (hex_of bytes) ≡ 2 * length bytes
+hex_length [] = refl
+hex_length (b ∷ bytes) = omega (arith, hex_length bytes)
 
-pub append-fits :
+pub append_fits :
     (xs ys : List ℕ) {a b : ℕ} → length xs ≤ a → length ys ≤ b → length (xs ++ ys) ≤ a + b
-append-fits xs ys h k = omega (arith, length-append xs ys)
+append_fits xs ys h k = omega (arith, length-append xs ys)

@@ -1,43 +1,43 @@
 -- No two results satisfy the promise of F, as `F-only` for each public function F. A result is the place
--- with the lent bytes, and every promise here is `Puts` of some text: one law, `puts-only`. No contract
+-- with the lent bytes, and every promise here is `Puts` of some text: one law, `puts_only`. No contract
 -- cites this file.
 -- Assumes nothing.
 use Prim.Native.Nat.{ℕ}
 use mathlib.Core.Path.{sym, ◌∙◌}
 use mathlib.Core.List.{List, [], ◌∷◌}
 use Rattle.promise.specs.Only.{OnlyOne}
-use Rattle.text.specs.Text.{Puts, hexByte, hexOf, digits, decimal}
+use Rattle.text.specs.Text.{Puts, hex_byte, hex_of, digits, decimal}
 
-pub puts-only :
+pub puts_only :
     (xs : List ℕ) (at : ℕ) (before : List ℕ) → OnlyOne (λ (r : ℕ × List ℕ). Puts xs at before r.0 r.1)
-puts-only xs at before x y p q = let both = p.text ∙ sym q.text in λ i. ((both i).at, (both i).bytes)
+puts_only xs at before x y p q = let both = p.text ∙ sym q.text in λ i. ((both i).at, (both i).bytes)
 
-pub put-byte-only :
+pub put_byte_only :
     (byte : ℕ) (at : ℕ) (before : List ℕ) →
     OnlyOne (λ (r : ℕ × List ℕ). Puts (byte ∷ []) at before r.0 r.1)
-put-byte-only byte = puts-only (byte ∷ [])
+put_byte_only byte = puts_only (byte ∷ [])
 
-pub put-bytes-only :
+pub put_bytes_only :
     (bytes : List ℕ) (at : ℕ) (before : List ℕ) →
     OnlyOne (λ (r : ℕ × List ℕ). Puts bytes at before r.0 r.1)
-put-bytes-only bytes = puts-only bytes
+put_bytes_only bytes = puts_only bytes
 
-pub put-hex-byte-only :
+pub put_hex_byte_only :
     (byte : ℕ) (at : ℕ) (before : List ℕ) →
-    OnlyOne (λ (r : ℕ × List ℕ). Puts (hexByte byte) at before r.0 r.1)
-put-hex-byte-only byte = puts-only (hexByte byte)
+    OnlyOne (λ (r : ℕ × List ℕ). Puts (hex_byte byte) at before r.0 r.1)
+put_hex_byte_only byte = puts_only (hex_byte byte)
 
-pub put-hex-only :
+pub put_hex_only :
     (bytes : List ℕ) (at : ℕ) (before : List ℕ) →
-    OnlyOne (λ (r : ℕ × List ℕ). Puts (hexOf bytes) at before r.0 r.1)
-put-hex-only bytes = puts-only (hexOf bytes)
+    OnlyOne (λ (r : ℕ × List ℕ). Puts (hex_of bytes) at before r.0 r.1)
+put_hex_only bytes = puts_only (hex_of bytes)
 
-pub put-nine-digits-only :
+pub put_nine_digits_only :
     (n : ℕ) (at : ℕ) (before : List ℕ) →
     OnlyOne (λ (r : ℕ × List ℕ). Puts (digits 9 n) at before r.0 r.1)
-put-nine-digits-only n = puts-only (digits 9 n)
+put_nine_digits_only n = puts_only (digits 9 n)
 
-pub put-decimal-only :
+pub put_decimal_only :
     (n : ℕ) (at : ℕ) (before : List ℕ) →
     OnlyOne (λ (r : ℕ × List ℕ). Puts (decimal n) at before r.0 r.1)
-put-decimal-only n = puts-only (decimal n)
+put_decimal_only n = puts_only (decimal n)

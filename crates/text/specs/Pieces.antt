@@ -8,9 +8,9 @@ pub record KeptRest (used held : ℕ) (before : List ℕ) (r : ℕ) (after : Lis
   pub bytes : after ≡ paste before 0 (drop used before) r
 
 -- ---- The place for a line: the start of the buffer, once what stands there is written, where there is no room.
-abbrev pub placeFor : (at line length : ℕ) → ℕ
-placeFor at line length = cond (ltb length at) 0 (cond (ltb (length - at) line) 0 at)
+abbrev pub place_for : (at line length : ℕ) → ℕ
+place_for at line length = cond (ltb length at) 0 (cond (ltb (length - at) line) 0 at)
 
 -- ---- Items are counted from 1, in 64 bits.
-abbrev pub nextItem : ℕ → ℕ
-nextItem item = cond (ltb item 18446744073709551615) (item + 1) item
+abbrev pub next_item : ℕ → ℕ
+next_item item = cond (ltb item 18446744073709551615) (item + 1) item

@@ -22,15 +22,15 @@ pub record Puts (xs : List ℕ) (at : ℕ) (before : List ℕ) (r : ℕ) (after 
   pub text : record { at = r; bytes = after } ≡ puts xs (record { at = at; bytes = before })
 
 -- ---- "Hex is upper case."
-abbrev pub hexDigit : ℕ → ℕ
-hexDigit d = cond (ltb d 10) (48 + d) (55 + d)
+abbrev pub hex_digit : ℕ → ℕ
+hex_digit d = cond (ltb d 10) (48 + d) (55 + d)
 
-abbrev pub hexByte : ℕ → List ℕ
-hexByte b = hexDigit (b / 16) ∷ hexDigit (b % 16) ∷ []
+abbrev pub hex_byte : ℕ → List ℕ
+hex_byte b = hex_digit (b / 16) ∷ hex_digit (b % 16) ∷ []
 
-abbrev pub hexOf : List ℕ → List ℕ
-hexOf [] = []
-hexOf (b ∷ bs) = hexByte b ++ hexOf bs
+abbrev pub hex_of : List ℕ → List ℕ
+hex_of [] = []
+hex_of (b ∷ bs) = hex_byte b ++ hex_of bs
 
 -- ---- The last k decimal digits of n.
 unfoldable pub digits : (k n : ℕ) → List ℕ

@@ -1,6 +1,6 @@
 // Numbers in bytes, big-endian, from a place on. Bytes beyond the end count as 0.
 ghost use Rattle.std.specs.Prelude.{◌<◌, ◌≡◌, get_or};
-ghost use Rattle.text.specs.Fields.{pair_at, word_at, longAt, bytes_at};
+ghost use Rattle.text.specs.Fields.{pair_at, word_at, long_at, bytes_at};
 
 pub fn byte_at(bytes: &[u8], at: usize) -> u8
     ensures { result ≡ get_or bytes.now at 0 }
@@ -24,7 +24,7 @@ pub fn word_at(bytes: &[u8], at: u16) -> u32
 
 // Eight bytes.
 pub fn long_at(bytes: &[u8], at: u16) -> u64
-    ensures { result ≡ longAt bytes.now at }
+    ensures { result ≡ long_at bytes.now at }
 {
     let high = word(bytes, at as usize) as u64;
     let low = word(bytes, at as usize + 4) as u64;

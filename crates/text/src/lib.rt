@@ -5,7 +5,7 @@ pub mod lines;
 pub mod pieces;
 
 ghost use Rattle.std.specs.Prelude.{◌<◌, ◌≡◌, [], ◌∷◌};
-ghost use Rattle.text.specs.Text.{Puts, hexDigit, hexByte, hexOf, digits, decimal};
+ghost use Rattle.text.specs.Text.{Puts, hex_digit, hex_byte, hex_of, digits, decimal};
 
 pub fn put_byte(out: &mut [u8], at: usize, byte: u8) -> usize
     ensures { Puts (byte ∷ []) at out.old result out.new }
@@ -32,14 +32,14 @@ pub fn put_bytes(out: &mut [u8], at: usize, bytes: &[u8]) -> usize
 
 // Two hexadecimal digits.
 pub fn put_hex_byte(out: &mut [u8], at: usize, byte: u8) -> usize
-    ensures { Puts (hexByte byte) at out.old result out.new }
+    ensures { Puts (hex_byte byte) at out.old result out.new }
 {
     let low = put_byte(out, at, hex_digit(byte / 16));
     put_byte(out, low, hex_digit(byte % 16))
 }
 
 pub fn put_hex(out: &mut [u8], at: usize, bytes: &[u8]) -> usize
-    ensures { Puts (hexOf bytes.now) at out.old result out.new }
+    ensures { Puts (hex_of bytes.now) at out.old result out.new }
 {
     let mut place = at;
     let mut i = 0;
@@ -76,7 +76,7 @@ pub fn put_decimal(out: &mut [u8], at: usize, n: u64) -> usize
 
 fn hex_digit(digit: u8) -> u8
     requires { digit < 16 }
-    ensures { result ≡ hexDigit digit }
+    ensures { result ≡ hex_digit digit }
 {
     if digit < 10 { 48 + digit } else { 55 + digit }
 }

@@ -1,14 +1,14 @@
 // What the lines of the bench and of the trial have in common (paper 01, "Bench program").
 ghost use Rattle.std.specs.Prelude.{◌≡◌};
 ghost use Rattle.text.specs.Text.{Puts};
-ghost use Rattle.text.specs.Lines.{answerText, timeText, badText, cutText};
+ghost use Rattle.text.specs.Lines.{answer_text, time_text, bad_text, cut_text};
 
 use crate::{put_byte, put_bytes, put_decimal, put_nine_digits};
 use clock::GlobalTime;
 
 // An item's number and the answer's.
 pub fn put_answer(out: &mut [u8], at: usize, item: u64, number: u8) -> usize
-    ensures { Puts (answerText item number) at out.old result out.new }
+    ensures { Puts (answer_text item number) at out.old result out.new }
 {
     let blank = put_decimal(out, at, item);
     let then = put_byte(out, blank, b' ');
@@ -17,7 +17,7 @@ pub fn put_answer(out: &mut [u8], at: usize, item: u64, number: u8) -> usize
 
 // Seconds, a point, nine digits.
 pub fn put_time(out: &mut [u8], at: usize, time: GlobalTime) -> usize
-    ensures { Puts (timeText time) at out.old result out.new }
+    ensures { Puts (time_text time) at out.old result out.new }
 {
     let point = put_decimal(out, at, time.0);
     let then = put_byte(out, point, b'.');
@@ -26,7 +26,7 @@ pub fn put_time(out: &mut [u8], at: usize, time: GlobalTime) -> usize
 
 // The line of an item with a wrong mark or kind.
 pub fn put_bad(out: &mut [u8], at: usize, item: u64) -> usize
-    ensures { Puts (badText item) at out.old result out.new }
+    ensures { Puts (bad_text item) at out.old result out.new }
 {
     let then = put_bytes(out, at, b"bad record ");
     let end = put_decimal(out, then, item);
@@ -35,7 +35,7 @@ pub fn put_bad(out: &mut [u8], at: usize, item: u64) -> usize
 
 // The line of a short tail.
 pub fn put_cut(out: &mut [u8], at: usize, item: u64) -> usize
-    ensures { Puts (cutText item) at out.old result out.new }
+    ensures { Puts (cut_text item) at out.old result out.new }
 {
     let then = put_bytes(out, at, b"cut record ");
     let end = put_decimal(out, then, item);

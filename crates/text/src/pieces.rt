@@ -1,6 +1,6 @@
 // Standard input and output in large pieces: a read takes what is there, and lines go out together.
 ghost use Rattle.std.specs.Prelude.{min, ◌≡◌, length};
-ghost use Rattle.text.specs.Pieces.{KeptRest, placeFor, nextItem};
+ghost use Rattle.text.specs.Pieces.{KeptRest, place_for, next_item};
 
 use libc::{STDERR_FILENO, STDIN_FILENO, STDOUT_FILENO};
 // What one read brought: so many bytes are in the buffer now, or none will come.
@@ -59,7 +59,7 @@ pub fn write_out(out: &[u8], length: usize) -> bool {
 // The place for a line of at most `line` bytes: what stands in the buffer is written first where there is no
 // room for it.
 pub fn with_room(out: &[u8], at: usize, line: usize) -> usize
-    ensures { result ≡ placeFor at line (length out.now) }
+    ensures { result ≡ place_for at line (length out.now) }
 {
     if out.len() < at {
         write_out(out, at);
@@ -74,7 +74,7 @@ pub fn with_room(out: &[u8], at: usize, line: usize) -> usize
 
 // The number of the item after this one.
 pub fn next_item(item: u64) -> u64
-    ensures { result ≡ nextItem item }
+    ensures { result ≡ next_item item }
 {
     if item < 18_446_744_073_709_551_615 {
         item + 1

@@ -14,9 +14,9 @@ use native.Mathlib.Nat.{min-le_right}
 use native.Mathlib.Omega.{arith}
 use lib.ListN.{length, take, drop, replicate, length-append}
 use lib.Seq.{length-take-le, take_at}
-use Rattle.promise.proofs.Lists.{take-replicate}
+use Rattle.promise.proofs.Lists.{take_replicate}
 use Rattle.text.specs.Text.{Puts}
-use Rattle.text.specs.Lines.{newline, answerText}
+use Rattle.text.specs.Lines.{newline, answer_text}
 use Rattle.text.proofs.Laws.{named}
 use Rattle.node.specs.declared.Node.{Node}
 use Rattle.trial_step.specs.TrialLine.{Numbered}
@@ -24,26 +24,26 @@ use Rattle.trial_step.specs.TrialLine.{Numbered}
 abbrev pub buffer : List ℕ
 buffer = replicate 512 0xA5
 
-pub lent-least : (n : ℕ) {k : ℕ} → k ≡ min n 512 → k ≤ 512
-lent-least n e = omega (arith, min-le_right n 512)
+pub lent_least : (n : ℕ) {k : ℕ} → k ≡ min n 512 → k ≤ 512
+lent_least n e = omega (arith, min-le_right n 512)
 
 module _ (k : ℕ) (most : k ≤ 512) where
-  pub lent-count : k ≡ length (take k buffer)
-  lent-count = sym (length-take-le k buffer most)
+  pub lent_count : k ≡ length (take k buffer)
+  lent_count = sym (length-take-le k buffer most)
 
   pub lent_is : take k buffer ≡ replicate k 0xA5
-  lent_is = take-replicate k 512 0xA5 most
+  lent_is = take_replicate k 512 0xA5 most
 
   module _ (left : List ℕ) (long : length left ≡ length (take k buffer)) where
     pub shown-room : k ≤ length (left ++ drop k buffer)
-    shown-room = omega (arith, length-append left (drop k buffer), lent-count)
+    shown-room = omega (arith, length-append left (drop k buffer), lent_count)
 
     pub shown-is : take k (left ++ drop k buffer) ≡ left
-    shown-is = take_at left (drop k buffer) k (long ∙ sym lent-count)
+    shown-is = take_at left (drop k buffer) k (long ∙ sym lent_count)
 
 pub numbered :
     {n m : Node} (item : ℕ) {number k at end : ℕ} {before after : List ℕ} →
-    n ≡ m → k ≡ number → Puts (answerText item k ++ newline) at before end after →
+    n ≡ m → k ≡ number → Puts (answer_text item k ++ newline) at before end after →
     Numbered m number item at before (record { node = n; at = end; goes_on = true }) after
 numbered item e f p =
-    record { node = e; goes_on = refl; line = named (ap (λ (k : ℕ). answerText item k ++ newline) f) p }
+    record { node = e; goes_on = refl; line = named (ap (λ (k : ℕ). answer_text item k ++ newline) f) p }

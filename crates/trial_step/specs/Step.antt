@@ -2,49 +2,49 @@
 -- Assumes nothing.
 use Rattle.std.specs.Prelude.{ℕ, min, List, ◌++◌, get_or, take, replicate}
 use Rattle.text.specs.Fields.{pair_at, bytes_at}
-use Rattle.settings.specs.Node.{verdictNumber}
+use Rattle.settings.specs.Node.{verdict_number}
 use Rattle.node.specs.declared.Node.{Node}
 use Rattle.node.specs.declared.NewNode.{NewNode}
-use Rattle.node.specs.New.{newOf}
+use Rattle.node.specs.New.{new_of}
 use Rattle.node_call.specs.declared.Request.{Request}
 use Rattle.node_call.specs.declared.Request.TheVariants.{Frame, Read, Set, Cycle, Confirm}
 use Rattle.bench_record.specs.declared.step.Step.{Step}
-use Rattle.bench_record.specs.Record.{askedBy}
+use Rattle.bench_record.specs.Record.{asked_by}
 use Rattle.bench_record.specs.Step.{RecordStepped}
 use Rattle.trial_step.specs.declared.item.Item.{Item}
 use Rattle.trial_step.specs.declared.item.Item.TheVariants.{Settings, Queue, One, Record}
-use Rattle.trial_step.specs.TrialLine.{trialLine, Numbered}
+use Rattle.trial_step.specs.TrialLine.{trial_line, Numbered}
 use Rattle.trial_step.specs.Queue.{QueueStepped}
 use Rattle.trial_step.specs.One.{OneStepped}
-use Rattle.trial_step.specs.Item.{itemOf}
-use Rattle.trial_step.specs.Block.{settingsOf}
+use Rattle.trial_step.specs.Item.{item_of}
+use Rattle.trial_step.specs.Block.{settings_of}
 
 -- ---- Kind 1: the domain byte is the frame's length, its bytes are the payload's and beyond eight zeros.
-abbrev pub paddedFrame : List ℕ → List ℕ
-paddedFrame bytes = bytes_at 8 bytes 12 ++ replicate 247 0
+abbrev pub padded_frame : List ℕ → List ℕ
+padded_frame bytes = bytes_at 8 bytes 12 ++ replicate 247 0
 
-abbrev pub givenFrame : List ℕ → List ℕ
-givenFrame bytes = take (get_or bytes 3 0) (paddedFrame bytes)
+abbrev pub given_frame : List ℕ → List ℕ
+given_frame bytes = take (get_or bytes 3 0) (padded_frame bytes)
 
 -- ---- Kind 4: the first two payload bytes are the buffer's length; kind 5: bytes 1 and 2. Above 512 it counts as 512.
-abbrev pub lentLength : Request → List ℕ → ℕ
-lentLength (Frame t) bytes = 0
-lentLength (Read domain t) bytes = 0
-lentLength (Set domain t s ns) bytes = 0
-lentLength (Cycle t) bytes = min (pair_at bytes 12) 512
-lentLength (Confirm domain t counter) bytes = min (pair_at bytes 13) 512
+abbrev pub lent_length : Request → List ℕ → ℕ
+lent_length (Frame t) bytes = 0
+lent_length (Read domain t) bytes = 0
+lent_length (Set domain t s ns) bytes = 0
+lent_length (Cycle t) bytes = min (pair_at bytes 12) 512
+lent_length (Confirm domain t counter) bytes = min (pair_at bytes 13) 512
 
 -- ---- Lent buffers hold A5 before the call.
-abbrev pub lentBuffer : (bytes : List ℕ) → Request → List ℕ
-lentBuffer bytes q = replicate (lentLength q bytes) 0xA5
+abbrev pub lent_buffer : (bytes : List ℕ) → Request → List ℕ
+lent_buffer bytes q = replicate (lent_length q bytes) 0xA5
 
 -- ---- The node that the settings give takes the place of the one before, also when refused.
-abbrev pub renewedBy : List ℕ → NewNode
-renewedBy bytes = newOf (settingsOf bytes)
+abbrev pub renewed_by : List ℕ → NewNode
+renewed_by bytes = new_of (settings_of bytes)
 
 abbrev pub Renewed : (item : ℕ) (bytes : List ℕ) (at : ℕ) (before : List ℕ) → Step → List ℕ → Type 0
 Renewed item bytes at before r after =
-    let new = renewedBy bytes in Numbered new.node (verdictNumber new.verdict) item at before r after
+    let new = renewed_by bytes in Numbered new.node (verdict_number new.verdict) item at before r after
 
 -- ---- An item by what it is.
 abbrev pub ItemStepped :
@@ -53,7 +53,7 @@ ItemStepped Settings n item bytes at before r after = Renewed item bytes at befo
 ItemStepped Queue n item bytes at before r after = QueueStepped n item bytes at before r after
 ItemStepped One n item bytes at before r after = OneStepped n item bytes at before r after
 ItemStepped Record n item bytes at before r after =
-    RecordStepped (askedBy bytes) (trialLine item) (givenFrame bytes) (lentBuffer bytes) n item at before r after
+    RecordStepped (asked_by bytes) (trial_line item) (given_frame bytes) (lent_buffer bytes) n item at before r after
 
 abbrev pub TrialStepped : Node → (item : ℕ) (bytes : List ℕ) (at : ℕ) (before : List ℕ) → Step → List ℕ → Type 0
-TrialStepped n item bytes at before r after = ItemStepped (itemOf bytes) n item bytes at before r after
+TrialStepped n item bytes at before r after = ItemStepped (item_of bytes) n item bytes at before r after

@@ -1,7 +1,7 @@
 // A settings block of the trial: the mark C7 3B, S, the number n of domain blocks, and n blocks of 128
 // bytes. Domains without a block are absent. Where n is above 16, the settings are ones that no node takes.
 ghost use Rattle.std.specs.Prelude.{◌≡◌};
-ghost use Rattle.trial_step.specs.Block.{one_of, domainsOf, settingsOf};
+ghost use Rattle.trial_step.specs.Block.{one_of, domains_of, settings_of};
 
 use crate::domain_block::domain_at;
 use settings::{DomainSettings, NodeSettings};
@@ -9,7 +9,7 @@ use text::fields::byte_at;
 
 // The settings of a block.
 pub fn settings_of(item: &[u8]) -> NodeSettings
-    ensures { result ≡ settingsOf item.now }
+    ensures { result ≡ settings_of item.now }
 {
     let blocks = byte_at(item, 3);
     if 16 < blocks {
@@ -25,7 +25,7 @@ pub fn settings_of(item: &[u8]) -> NodeSettings
 }
 
 fn domains_of(item: &[u8], blocks: u8) -> [DomainSettings; 16]
-    ensures { result ≡ domainsOf 16 blocks item.now }
+    ensures { result ≡ domains_of 16 blocks item.now }
 {
     let mut domains = [DomainSettings::absent(); 16];
     let mut d: u8 = 0;

@@ -3,14 +3,14 @@
 ghost use Rattle.std.specs.Prelude.{◌≡◌, ◌<◌};
 ghost use Rattle.trial_step.specs.DomainBlock.{
   mode_of,
-  sendsAs,
-  noSettings,
-  idsAt,
-  confirmationTime,
-  clearCount,
-  slaveAs,
-  masterAs,
-  domainAt,
+  sends_as,
+  no_settings,
+  ids_at,
+  confirmation_time,
+  clear_count,
+  slave_as,
+  master_as,
+  domain_at,
 };
 
 use frame::DataIds;
@@ -34,7 +34,7 @@ pub enum Sends {
 // The domain block at a place.
 pub(crate) fn domain_at(item: &[u8], at: u16) -> DomainSettings
     requires { at < 40000 }
-    ensures { result ≡ domainAt item.now at }
+    ensures { result ≡ domain_at item.now at }
 {
     match byte_at(item, at as usize) {
         0 => DomainSettings::absent(),
@@ -46,7 +46,7 @@ pub(crate) fn domain_at(item: &[u8], at: u16) -> DomainSettings
 
 fn slave(item: &[u8], at: u16, mode: Mode) -> DomainSettings
     requires { at < 40000 }
-    ensures { result ≡ slaveAs mode item.now at }
+    ensures { result ≡ slave_as mode item.now at }
 {
     match mode {
         Mode::Unknown => no_settings(),
@@ -71,7 +71,7 @@ fn slave(item: &[u8], at: u16, mode: Mode) -> DomainSettings
 
 fn master(item: &[u8], at: u16, sends: Sends) -> DomainSettings
     requires { at < 40000 }
-    ensures { result ≡ masterAs sends item.now at }
+    ensures { result ≡ master_as sends item.now at }
 {
     match sends {
         Sends::Unknown => no_settings(),
@@ -101,7 +101,7 @@ fn master(item: &[u8], at: u16, sends: Sends) -> DomainSettings
 // 16 SYNC DataIDs, 16 FUP DataIDs.
 fn ids_at(item: &[u8], at: u16) -> DataIds
     requires { at < 50000 }
-    ensures { result ≡ idsAt item.now at }
+    ensures { result ≡ ids_at item.now at }
 {
     DataIds {
         sync: sixteen_at(item, at),
@@ -111,7 +111,7 @@ fn ids_at(item: &[u8], at: u16) -> DataIds
 
 // Above 32 bits it is out of range, whatever it is.
 fn confirmation_time(time: u64) -> u32
-    ensures { result ≡ confirmationTime time }
+    ensures { result ≡ confirmation_time time }
 {
     if time < 4_294_967_295 {
         time as u32
@@ -122,14 +122,14 @@ fn confirmation_time(time: u64) -> u32
 
 // One more than the code, so that 0 is 1 and 254 is 255; 255 is 0, which is out of range.
 fn clear_count(code: u8) -> u8
-    ensures { result ≡ clearCount code }
+    ensures { result ≡ clear_count code }
 {
     if code < 255 { code + 1 } else { 0 }
 }
 
 // Out of range: a slave with J 0.
 fn no_settings() -> DomainSettings
-    ensures { result ≡ noSettings }
+    ensures { result ≡ no_settings }
 {
     DomainSettings {
         follow_up_time: 0,
@@ -165,7 +165,7 @@ fn mode_of(code: u8) -> Mode
 }
 
 fn sends_as(code: u8) -> Sends
-    ensures { result ≡ sendsAs code }
+    ensures { result ≡ sends_as code }
 {
     match code {
         0 => Sends::As(Security::Plain),

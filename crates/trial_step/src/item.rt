@@ -1,6 +1,6 @@
 // An item of the trial by its first bytes: what it is, and how long.
 ghost use Rattle.std.specs.Prelude.{◌≡◌};
-ghost use Rattle.trial_step.specs.Item.{kind_of, itemOf, itemLength};
+ghost use Rattle.trial_step.specs.Item.{kind_of, item_of, item_length};
 
 use crate::queue::frame_bytes;
 use text::fields::byte_at;
@@ -19,7 +19,7 @@ pub enum Item {
 
 // What an item is: by its mark, and a call record by its kind.
 pub fn item_of(bytes: &[u8]) -> Item
-    ensures { result ≡ itemOf bytes.now }
+    ensures { result ≡ item_of bytes.now }
 {
     if byte_at(bytes, 0) != 0xC7 {
         return Item::Record;
@@ -44,7 +44,7 @@ fn kind_of(kind: u8) -> Item
 // How many bytes the item has that begins here: those of a settings block or of a queue, or 20. Where its first bytes
 // have not come yet, it is more than there are.
 pub fn item_length(bytes: &[u8]) -> usize
-    ensures { result ≡ itemLength bytes.now }
+    ensures { result ≡ item_length bytes.now }
 {
     match item_of(bytes) {
         Item::Settings => 4 + 128 * (byte_at(bytes, 3) as usize),

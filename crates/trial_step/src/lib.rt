@@ -8,12 +8,12 @@ mod queue;
 
 ghost use Rattle.std.specs.Prelude.{◌≡◌};
 ghost use Rattle.bench_record.specs.Step.{Answered};
-ghost use Rattle.trial_step.specs.TrialLine.{trialLine};
+ghost use Rattle.trial_step.specs.TrialLine.{trial_line};
 ghost use Rattle.trial_step.specs.Step.{
-  paddedFrame,
-  givenFrame,
-  lentLength,
-  lentBuffer,
+  padded_frame,
+  given_frame,
+  lent_length,
+  lent_buffer,
   Renewed,
   TrialStepped,
 };
@@ -48,8 +48,8 @@ pub fn trial_step(node: Node, item: u64, bytes: &[u8], out: &mut [u8], at: usize
 
 // The call that a record asks for, with the record's frame and a lent buffer of A5s, and its line.
 fn ask(node: Node, item: u64, request: Request, bytes: &[u8], out: &mut [u8], at: usize) -> Step
-    ensures { Answered (trialLine item) node request (givenFrame bytes.now)
-        (lentBuffer bytes.now request) at out.old result out.new }
+    ensures { Answered (trial_line item) node request (given_frame bytes.now)
+        (lent_buffer bytes.now request) at out.old result out.new }
 {
     let frame = padded_frame(bytes);
     let frame_length = byte_at(bytes, 3) as usize;
@@ -84,7 +84,7 @@ fn renew(item: u64, bytes: &[u8], out: &mut [u8], at: usize) -> Step
 // The length of the lent buffer: in the payload's first two bytes for a main cycle, after the counter for
 // a confirmation. Above 512 it counts as 512.
 fn lent_length(request: Request, bytes: &[u8]) -> usize
-    ensures { result ≡ lentLength request bytes.now }
+    ensures { result ≡ lent_length request bytes.now }
 {
     match request {
         Request::Frame(_) => 0,
@@ -97,7 +97,7 @@ fn lent_length(request: Request, bytes: &[u8]) -> usize
 
 // The payload, and zeros.
 fn padded_frame(bytes: &[u8]) -> [u8; 255]
-    ensures { result ≡ paddedFrame bytes.now }
+    ensures { result ≡ padded_frame bytes.now }
 {
     let mut frame = [0u8; 255];
     let mut i = 0;

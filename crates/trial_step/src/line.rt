@@ -1,14 +1,14 @@
 // The trial's line of an answer. A lent buffer is shown whole, also where the call is refused.
 ghost use Rattle.std.specs.Prelude.{◌≡◌, ◌++◌};
 ghost use Rattle.text.specs.Text.{Puts};
-ghost use Rattle.text.specs.Lines.{newline, answerText};
-ghost use Rattle.node.specs.CycleAnswer.{cycleCount};
+ghost use Rattle.text.specs.Lines.{newline, answer_text};
+ghost use Rattle.node.specs.CycleAnswer.{cycle_count};
 ghost use Rattle.trial_step.specs.TrialLine.{
-  trialRead,
-  bufferText,
-  trialValues,
-  trialLine,
-  queueLine,
+  trial_read,
+  buffer_text,
+  trial_values,
+  trial_line,
+  queue_line,
 };
 
 use bench_record::line::put_shown;
@@ -27,7 +27,7 @@ pub fn put_trial_line(
     answer: CallAnswer,
     buffer: &[u8],
 ) -> usize
-    ensures { Puts (trialLine item answer buffer.now) at out.old result out.new }
+    ensures { Puts (trial_line item answer buffer.now) at out.old result out.new }
 {
     let values = put_answer(out, at, item, answer.number());
     let end = put_values(out, values, answer, buffer);
@@ -42,7 +42,7 @@ pub fn put_queue_line(
     answer: QueueAnswer,
     buffer: &[u8],
 ) -> usize
-    ensures { Puts (queueLine item answer buffer.now) at out.old result out.new }
+    ensures { Puts (queue_line item answer buffer.now) at out.old result out.new }
 {
     let then = put_answer(out, at, item, answer.number());
     let end = put_buffer(out, then, buffer);
@@ -51,7 +51,7 @@ pub fn put_queue_line(
 
 // A line that has the number alone.
 pub(crate) fn put_number(out: &mut [u8], at: usize, item: u64, number: u8) -> usize
-    ensures { Puts (answerText item number ++ newline) at out.old result out.new }
+    ensures { Puts (answer_text item number ++ newline) at out.old result out.new }
 {
     let end = put_answer(out, at, item, number);
     put_byte(out, end, b'\n')
@@ -59,7 +59,7 @@ pub(crate) fn put_number(out: &mut [u8], at: usize, item: u64, number: u8) -> us
 
 // What comes after the number.
 fn put_values(out: &mut [u8], at: usize, answer: CallAnswer, buffer: &[u8]) -> usize
-    ensures { Puts (trialValues answer buffer.now) at out.old result out.new }
+    ensures { Puts (trial_values answer buffer.now) at out.old result out.new }
 {
     match answer {
         CallAnswer::Frame(_) => at,
@@ -76,7 +76,7 @@ fn put_values(out: &mut [u8], at: usize, answer: CallAnswer, buffer: &[u8]) -> u
 
 // The time, the status, the user bytes and the update counter.
 fn put_read(out: &mut [u8], at: usize, read: ReadAnswer) -> usize
-    ensures { Puts (trialRead read) at out.old result out.new }
+    ensures { Puts (trial_read read) at out.old result out.new }
 {
     match read {
         ReadAnswer::Refused(_) => at,
@@ -93,7 +93,7 @@ fn put_read(out: &mut [u8], at: usize, read: ReadAnswer) -> usize
 
 // A refused main cycle sent none.
 fn count_of(cycle: CycleAnswer) -> u64
-    ensures { result ≡ cycleCount cycle }
+    ensures { result ≡ cycle_count cycle }
 {
     match cycle {
         CycleAnswer::Sent(count) => count as u64,
@@ -103,7 +103,7 @@ fn count_of(cycle: CycleAnswer) -> u64
 
 // An empty buffer is a dash.
 fn put_buffer(out: &mut [u8], at: usize, buffer: &[u8]) -> usize
-    ensures { Puts (bufferText buffer.now) at out.old result out.new }
+    ensures { Puts (buffer_text buffer.now) at out.old result out.new }
 {
     let then = put_byte(out, at, b' ');
     if buffer.len() == 0 {

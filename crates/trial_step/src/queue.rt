@@ -2,8 +2,8 @@
 // buffer, in 14 and 15 the number f of frame bytes; behind 20 bytes n readings of 8 bytes, and f frame bytes as they
 // stand.
 ghost use Rattle.std.specs.Prelude.{◌≡◌};
-ghost use Rattle.text.specs.Fields.{longsAt};
-ghost use Rattle.trial_step.specs.Queue.{frameBytes, givenFrames, QueueStepped};
+ghost use Rattle.text.specs.Fields.{longs_at};
+ghost use Rattle.trial_step.specs.Queue.{frame_bytes, given_frames, QueueStepped};
 
 use crate::line::put_queue_line;
 use bench_record::step::Step;
@@ -14,7 +14,7 @@ use text::pieces::least;
 
 // How many frame bytes follow the readings: above 4,096 so many.
 pub(crate) fn frame_bytes(bytes: &[u8]) -> usize
-    ensures { result ≡ frameBytes bytes.now }
+    ensures { result ≡ frame_bytes bytes.now }
 {
     least(pair_at(bytes, 14) as usize, 4096)
 }
@@ -45,7 +45,7 @@ pub(crate) fn take_queue(node: Node, item: u64, bytes: &[u8], out: &mut [u8], at
 
 // The frame bytes of an item, as they stand; of a shorter item those that there are.
 fn frames_of(bytes: &[u8]) -> &[u8]
-    ensures { result.now ≡ givenFrames bytes.now }
+    ensures { result.now ≡ given_frames bytes.now }
 {
     let count = byte_at(bytes, 3) as usize;
     let start = least(20 + 8 * count, bytes.len());
@@ -55,7 +55,7 @@ fn frames_of(bytes: &[u8]) -> &[u8]
 
 // As many as there can be: bytes beyond the item count as 0.
 fn readings_of(bytes: &[u8]) -> [u64; 255]
-    ensures { result ≡ longsAt 255 bytes.now 20 }
+    ensures { result ≡ longs_at 255 bytes.now 20 }
 {
     let mut readings = [0u64; 255];
     let mut i = 0;

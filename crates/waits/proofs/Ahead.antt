@@ -14,8 +14,8 @@ use native.Mathlib.Omega.{arith}
 use lib.Dec.{eqb}
 use lib.ListN.{take}
 use borrow.Author.Tests.{eqb-true, eqb-false}
-use Rattle.round.specs.Turn.{nextPlace}
-use Rattle.round.specs.FirstDue.{walk, dueAmong, NotIn, nextBehind}
+use Rattle.round.specs.Turn.{next_place}
+use Rattle.round.specs.FirstDue.{walk, due_among, NotIn, next_behind}
 use Rattle.round.proofs.Places.{sum_of}
 
 -- ---- the count of the places that stand before x
@@ -23,10 +23,10 @@ abbrev pub ahead : (f : ℕ → ℕ) (x : ℕ) → List ℕ → ℕ
 ahead f x [] = 0
 ahead f x (p ∷ ps) = cond (eqb p x) 0 (f p + ahead f x ps)
 
-pub ahead-same :
+pub ahead_same :
     (f g : ℕ → ℕ) (x : ℕ) → ((p : ℕ) → f p ≡ g p) → (ps : List ℕ) → ahead f x ps ≡ ahead g x ps
-ahead-same f g x same [] = refl
-ahead-same f g x same (p ∷ ps) = λ i. cond (eqb p x) 0 (same p i + ahead-same f g x same ps i)
+ahead_same f g x same [] = refl
+ahead_same f g x same (p ∷ ps) = λ i. cond (eqb p x) 0 (same p i + ahead_same f g x same ps i)
 
 -- ---- x stands among the places; behind another it stands among those that are left
 abbrev pub Among : (x : ℕ) → List ℕ → Type 0
@@ -36,15 +36,15 @@ later : (x p : ℕ) (ps : List ℕ) → eqb p x ≡ false → Among x (p ∷ ps)
 later x p ps e there none = there (eqb-false p x e, none)
 
 module _ (f : ℕ → ℕ) (x : ℕ) where
-  fewer-if :
+  fewer_if :
       (p : ℕ) (ps : List ℕ) (here : Bool) → eqb p x ≡ here → 1 ≤ f x → (Among x ps → ahead f x ps < sum_of f ps) →
       Among x (p ∷ ps) → cond here 0 (f p + ahead f x ps) < f p + sum_of f ps
-  fewer-if p ps true e counts rest there = omega (arith, ap f (eqb-true p x e))
-  fewer-if p ps false e counts rest there = omega (arith, rest (later x p ps e there))
+  fewer_if p ps true e counts rest there = omega (arith, ap f (eqb-true p x e))
+  fewer_if p ps false e counts rest there = omega (arith, rest (later x p ps e there))
 
-  pub ahead-fewer : (ps : List ℕ) → 1 ≤ f x → Among x ps → ahead f x ps < sum_of f ps
-  ahead-fewer [] counts there = absurd (there tt)
-  ahead-fewer (p ∷ ps) counts there = fewer-if p ps (eqb p x) refl counts (ahead-fewer ps counts) there
+  pub ahead_fewer : (ps : List ℕ) → 1 ≤ f x → Among x ps → ahead f x ps < sum_of f ps
+  ahead_fewer [] counts there = absurd (there tt)
+  ahead_fewer (p ∷ ps) counts there = fewer_if p ps (eqb p x) refl counts (ahead_fewer ps counts) there
 
   module _ (n : ℕ) where
     pub ahead-longer :
@@ -52,47 +52,47 @@ module _ (f : ℕ → ℕ) (x : ℕ) where
     ahead-longer zero m p h there = absurd (there tt)
     ahead-longer (suc k) zero p h there = absurd (omega (arith, h))
     ahead-longer (suc k) (suc m) p h there =
-        go (eqb p x) refl (λ more. ahead-longer k m (nextPlace n p) (omega (arith, h)) more)
+        go (eqb p x) refl (λ more. ahead-longer k m (next_place n p) (omega (arith, h)) more)
       where
         go :
             (here : Bool) → eqb p x ≡ here →
-            (Among x (walk n k (nextPlace n p)) →
-            ahead f x (walk n m (nextPlace n p)) ≡ ahead f x (walk n k (nextPlace n p))) →
-            cond here 0 (f p + ahead f x (walk n m (nextPlace n p)))
-            ≡ cond here 0 (f p + ahead f x (walk n k (nextPlace n p)))
+            (Among x (walk n k (next_place n p)) →
+            ahead f x (walk n m (next_place n p)) ≡ ahead f x (walk n k (next_place n p))) →
+            cond here 0 (f p + ahead f x (walk n m (next_place n p)))
+            ≡ cond here 0 (f p + ahead f x (walk n k (next_place n p)))
         go true e rest = refl
-        go false e rest = ap (λ (a : ℕ). f p + a) (rest (later x p (walk n k (nextPlace n p)) e there))
+        go false e rest = ap (λ (a : ℕ). f p + a) (rest (later x p (walk n k (next_place n p)) e there))
 
     -- ---- a round that serves the first s due places, x not among them; each due place counts
     module _ (due : ℕ → Bool) (counts : (p : ℕ) → due p ≡ true → 1 ≤ f p) (is-due : due x ≡ true) where
       -- the turns from a walk's place on serve, and then so much less is ahead
       abbrev Passes : (ps served : List ℕ) (s next : ℕ) → Type 0
       Passes ps served s next =
-          NotIn x served → ahead f x (walk n n (nextBehind n served next)) + s ≤ ahead f x ps
+          NotIn x served → ahead f x (walk n n (next_behind n served next)) + s ≤ ahead f x ps
 
       abbrev first_of : (s : ℕ) → List ℕ → List ℕ
-      first_of s ps = take s (dueAmong due ps)
+      first_of s ps = take s (due_among due ps)
 
       module _ (k at : ℕ) (fits : suc k ≤ n) (there : Among x (walk n (suc k) at))
           (rest :
-          Among x (walk n k (nextPlace n at)) → (l next : ℕ) →
-          Passes (walk n k (nextPlace n at)) (first_of (suc l) (walk n k (nextPlace n at))) (suc l) next) where
+          Among x (walk n k (next_place n at)) → (l next : ℕ) →
+          Passes (walk n k (next_place n at)) (first_of (suc l) (walk n k (next_place n at))) (suc l) next) where
         abbrev ws : List ℕ
-        ws = walk n k (nextPlace n at)
+        ws = walk n k (next_place n at)
 
         -- the place serves as the last of s, or others do after it
         serves :
             (l : ℕ) → due at ≡ true → eqb at x ≡ false → NotIn x (first_of l ws) →
-            ahead f x (walk n n (nextBehind n (first_of l ws) (nextPlace n at))) + suc l ≤ f at + ahead f x ws
+            ahead f x (walk n n (next_behind n (first_of l ws) (next_place n at))) + suc l ≤ f at + ahead f x ws
         serves zero d e none =
-            omega (arith, counts at d, ahead-longer k n (nextPlace n at) (omega arith) (later x at ws e there))
+            omega (arith, counts at d, ahead-longer k n (next_place n at) (omega arith) (later x at ws e there))
         serves (suc l) d e none =
-            omega (arith, counts at d, rest (later x at ws e there) l (nextPlace n at) none)
+            omega (arith, counts at d, rest (later x at ws e there) l (next_place n at) none)
 
         turn :
             (l next : ℕ) (here : Bool) → eqb at x ≡ here → (b : Bool) → due at ≡ b →
-            NotIn x (take (suc l) (cond b (at ∷ dueAmong due ws) (dueAmong due ws))) →
-            ahead f x (walk n n (nextBehind n (take (suc l) (cond b (at ∷ dueAmong due ws) (dueAmong due ws))) next))
+            NotIn x (take (suc l) (cond b (at ∷ due_among due ws) (due_among due ws))) →
+            ahead f x (walk n n (next_behind n (take (suc l) (cond b (at ∷ due_among due ws) (due_among due ws))) next))
             + suc l
             ≤ cond here 0 (f at + ahead f x ws)
         turn l next true e true d none = absurd (none.0 (eqb-true at x e))
@@ -106,12 +106,12 @@ module _ (f : ℕ → ℕ) (x : ℕ) where
           Passes (walk n k at) (first_of (suc l) (walk n k at)) (suc l) next
       passes zero at h there l next = absurd (there tt)
       passes (suc k) at h there l next =
-          turn k at h there (λ more. passes k (nextPlace n at) (omega (arith, h)) more) l next (eqb at x) refl (due at)
+          turn k at h there (λ more. passes k (next_place n at) (omega (arith, h)) more) l next (eqb at x) refl (due at)
           refl
 
       pub passed_over :
-          (s at next : ℕ) → 1 ≤ s → Among x (walk n n at) → NotIn x (take s (dueAmong due (walk n n at))) →
-          ahead f x (walk n n (nextBehind n (take s (dueAmong due (walk n n at))) next)) + s
+          (s at next : ℕ) → 1 ≤ s → Among x (walk n n at) → NotIn x (take s (due_among due (walk n n at))) →
+          ahead f x (walk n n (next_behind n (take s (due_among due (walk n n at))) next)) + s
           ≤ ahead f x (walk n n at)
       passed_over zero at next h there none = absurd (omega arith)
       passed_over (suc l) at next h there none = passes n at (omega arith) there l next none

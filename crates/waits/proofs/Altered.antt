@@ -15,37 +15,37 @@ use mathlib.Core.List.{List, [], ◌∷◌}
 use native.Mathlib.Omega.{arith}
 use lib.ListN.{replicate}
 use Rattle.settings.specs.declared.node_settings.NodeSettings.{NodeSettings}
-use Rattle.settings.specs.Domain.{absentHeld}
+use Rattle.settings.specs.Domain.{absent_held}
 use Rattle.settings.specs.Node.{places}
-use Rattle.domain.specs.Records.{recordAt}
-use Rattle.master_send.specs.Send.{isDue}
+use Rattle.domain.specs.Records.{record_at}
+use Rattle.master_send.specs.Send.{is_due}
 use Rattle.round.specs.Round.{goes}
 use Rattle.node.specs.declared.Node.{Node}
-use Rattle.node.specs.New.{newOf}
-use Rattle.node_call.specs.Calls.{Call, frame, read, set, cycle, confirm, reading_of, nodeAfter, nodeAfterAll}
+use Rattle.node.specs.New.{new_of}
+use Rattle.node_call.specs.Calls.{Call, frame, read, set, cycle, confirm, reading_of, node_after, node_after_all}
 use Rattle.node_laws.specs.Reachable.{AreCalls, Reachable, new}
-use Rattle.node_laws.specs.Apart.{isMasterAt}
-use Rattle.node_laws.specs.Due.{countBelow}
-use Rattle.node_laws.proofs.Witness.{are-calls, reaches}
+use Rattle.node_laws.specs.Apart.{is_master_at}
+use Rattle.node_laws.specs.Due.{count_below}
+use Rattle.node_laws.proofs.Witness.{are_calls_lem, reaches}
 use Rattle.waits.specs.Waits.{
-  isCompleted,
+  is_completed,
   completed,
-  doesSend,
-  hasSent,
+  does_send,
+  has_sent,
   masters,
-  roundedUp,
+  rounded_up,
   DueUntilSent,
 }
-use Rattle.waits.proofs.Waits.{each-sends}
+use Rattle.waits.proofs.Waits.{each_sends}
 use Rattle.waits.proofs.Router.{
   reading,
-  plainMaster,
-  setsFrom,
-  cycleOf,
+  plain_master,
+  sets_from,
+  cycle_of,
   router,
-  router-reached,
+  router_reached,
   cycles,
-  five-waited,
+  five_waited,
 }
 
 -- ---- the statement, with a place for what is altered
@@ -53,100 +53,100 @@ abbrev Altered :
     (masters : Node → ℕ) (bound : (m s : ℕ) → ℕ) (Due : Node → List Call → ℕ → Type 0)
     (completed : Node → List Call → ℕ) → Type 0
 Altered masters bound Due completed =
-    (n : Node) → Reachable n → (i : ℕ) → i < places → isMasterAt n i ≡ true →
+    (n : Node) → Reachable n → (i : ℕ) → i < places → is_master_at n i ≡ true →
     (cs : List Call) → AreCalls cs → Due n cs i →
-    bound (masters n) n.syncs_per_cycle ≤ completed n cs → hasSent n cs i ≡ true
+    bound (masters n) n.syncs_per_cycle ≤ completed n cs → has_sent n cs i ≡ true
 
-unaltered : Altered masters roundedUp DueUntilSent completed
-unaltered = each-sends
+unaltered : Altered masters rounded_up DueUntilSent completed
+unaltered = each_sends
 
 -- ---- five main cycles for the router's sixteen masters and S 3
 
-five-refute :
+five_refute :
     (count : Node → ℕ) (bound : (m s : ℕ) → ℕ) → bound (count router) 3 ≤ 5 →
     Altered count bound DueUntilSent completed → ⊥
-five-refute count bound fits says =
+five_refute count bound fits says =
     true≢false
-    (sym (says router router-reached 15 (omega arith) refl (cycles 5) five-waited.are five-waited.due
-    (rw five-waited.cycles fits))
-    ∙ five-waited.has)
+    (sym (says router router_reached 15 (omega arith) refl (cycles 5) five_waited.are five_waited.due
+    (rw five_waited.cycles fits))
+    ∙ five_waited.has)
 
-pub five-are-few : Altered masters (λ m s. roundedUp m s - 1) DueUntilSent completed → ⊥
-five-are-few = five-refute masters (λ m s. roundedUp m s - 1) (omega arith)
+pub five_are_few : Altered masters (λ m s. rounded_up m s - 1) DueUntilSent completed → ⊥
+five_are_few = five_refute masters (λ m s. rounded_up m s - 1) (omega arith)
 
-pub rounded-down-false : Altered masters (λ m s. m / s) DueUntilSent completed → ⊥
-rounded-down-false = five-refute masters (λ m s. m / s) (omega arith)
+pub rounded_down_false : Altered masters (λ m s. m / s) DueUntilSent completed → ⊥
+rounded_down_false = five_refute masters (λ m s. m / s) (omega arith)
 
-pub fifteen-counted-false : Altered (λ n. countBelow (isMasterAt n) 15) roundedUp DueUntilSent completed → ⊥
-fifteen-counted-false = five-refute (λ n. countBelow (isMasterAt n) 15) roundedUp (omega arith)
+pub fifteen_counted_false : Altered (λ n. count_below (is_master_at n) 15) rounded_up DueUntilSent completed → ⊥
+fifteen_counted_false = five_refute (λ n. count_below (is_master_at n) 15) rounded_up (omega arith)
 
 -- ---- S 1, and masters in domains 0 and 1, of which some have been set
 
-abbrev twoMasters : NodeSettings
-twoMasters = record { syncs_per_cycle = 1; domains = plainMaster ∷ plainMaster ∷ replicate 14 absentHeld }
+abbrev two_masters : NodeSettings
+two_masters = record { syncs_per_cycle = 1; domains = plain_master ∷ plain_master ∷ replicate 14 absent_held }
 
 abbrev after : List Call → Node
-after sets = nodeAfterAll (newOf twoMasters).node sets
+after sets = node_after_all (new_of two_masters).node sets
 
 reached : (sets : List Call) → AreCalls sets → Reachable (after sets)
-reached sets = reaches _ (new twoMasters refl) sets
+reached sets = reaches _ (new two_masters refl) sets
 
 -- masters that are due at the start: 1 is, then 0 is set too, and sends
-abbrev mastersDue : Node → ℕ
-mastersDue n = countBelow (λ (i : ℕ). isDue (recordAt n.domains i) n.kept) places
+abbrev masters_due : Node → ℕ
+masters_due n = count_below (λ (i : ℕ). is_due (record_at n.domains i) n.kept) places
 
-abbrev lateSet : List Call
-lateSet = set 0 (reading 0) 5 0 ∷ cycleOf 8 ∷ []
+abbrev late_set : List Call
+late_set = set 0 (reading 0) 5 0 ∷ cycle_of 8 ∷ []
 
-pub due-masters-false : Altered mastersDue roundedUp DueUntilSent completed → ⊥
+pub due_masters_false : Altered masters_due rounded_up DueUntilSent completed → ⊥
 unfolding goes
-due-masters-false says =
+due_masters_false says =
     true≢false
-    (sym (says (after (setsFrom 1 1)) (reached (setsFrom 1 1) (are-calls (setsFrom 1 1) refl)) 1 (omega arith) refl
-    lateSet (are-calls lateSet refl) (λ e. refl, λ e. (λ e. refl, λ e. tt)) (omega arith)))
+    (sym (says (after (sets_from 1 1)) (reached (sets_from 1 1) (are_calls_lem (sets_from 1 1) refl)) 1 (omega arith) refl
+    late_set (are_calls_lem late_set refl) (λ e. refl, λ e. (λ e. refl, λ e. tt)) (omega arith)))
 
 -- refused main cycles count: two with 7 bytes of room
-abbrev isCycle : Call → Bool
-isCycle (frame t bytes) = false
-isCycle (read domain t) = false
-isCycle (set domain t s ns) = false
-isCycle (cycle t out) = true
-isCycle (confirm domain t counter out) = false
+abbrev is_cycle : Call → Bool
+is_cycle (frame t bytes) = false
+is_cycle (read domain t) = false
+is_cycle (set domain t s ns) = false
+is_cycle (cycle t out) = true
+is_cycle (confirm domain t counter out) = false
 
 abbrev DueAtEach : Node → List Call → (i : ℕ) → Type 0
 DueAtEach n [] i = Unit {0}
 DueAtEach n (c ∷ rest) i =
-    (isCycle c ≡ true → isDue (recordAt n.domains i) (reading_of c) ≡ true)
-    × (doesSend n c i ≡ false → DueAtEach (nodeAfter n c) rest i)
+    (is_cycle c ≡ true → is_due (record_at n.domains i) (reading_of c) ≡ true)
+    × (does_send n c i ≡ false → DueAtEach (node_after n c) rest i)
 
-abbrev cyclesIn : Node → List Call → ℕ
-cyclesIn n [] = 0
-cyclesIn n (c ∷ rest) = cond (isCycle c) 1 0 + cyclesIn (nodeAfter n c) rest
+abbrev cycles_in : Node → List Call → ℕ
+cycles_in n [] = 0
+cycles_in n (c ∷ rest) = cond (is_cycle c) 1 0 + cycles_in (node_after n c) rest
 
-abbrev shortOfRoom : List Call
-shortOfRoom = cycleOf 7 ∷ cycleOf 7 ∷ []
+abbrev short_of_room : List Call
+short_of_room = cycle_of 7 ∷ cycle_of 7 ∷ []
 
-pub refused-cycles-false : Altered masters roundedUp DueAtEach cyclesIn → ⊥
+pub refused_cycles_false : Altered masters rounded_up DueAtEach cycles_in → ⊥
 unfolding goes
-refused-cycles-false says =
+refused_cycles_false says =
     true≢false
-    (sym (says (after (setsFrom 2 0)) (reached (setsFrom 2 0) (are-calls (setsFrom 2 0) refl)) 0 (omega arith) refl
-    shortOfRoom (are-calls shortOfRoom refl) (λ e. refl, λ e. (λ e. refl, λ e. tt)) (omega arith)))
+    (sym (says (after (sets_from 2 0)) (reached (sets_from 2 0) (are_calls_lem (sets_from 2 0) refl)) 0 (omega arith) refl
+    short_of_room (are_calls_lem short_of_room refl) (λ e. refl, λ e. (λ e. refl, λ e. tt)) (omega arith)))
 
 -- due at the first completed main cycle alone: 0 sends in it, then 1 is set to the last second that is sent, and the
 -- next main cycle comes a second later
 abbrev DueAtFirst : Node → List Call → (i : ℕ) → Type 0
 DueAtFirst n [] i = Unit {0}
 DueAtFirst n (c ∷ rest) i =
-    (isCompleted n c ≡ true → isDue (recordAt n.domains i) (reading_of c) ≡ true)
-    × (isCompleted n c ≡ false → DueAtFirst (nodeAfter n c) rest i)
+    (is_completed n c ≡ true → is_due (record_at n.domains i) (reading_of c) ≡ true)
+    × (is_completed n c ≡ false → DueAtFirst (node_after n c) rest i)
 
-abbrev pastTheEnd : List Call
-pastTheEnd = cycleOf 8 ∷ set 1 (reading 0) 4294967295 0 ∷ cycle (reading 1000000000) (replicate 8 0) ∷ []
+abbrev past_the_end : List Call
+past_the_end = cycle_of 8 ∷ set 1 (reading 0) 4294967295 0 ∷ cycle (reading 1000000000) (replicate 8 0) ∷ []
 
-pub due-at-first-false : Altered masters roundedUp DueAtFirst completed → ⊥
+pub due_at_first_false : Altered masters rounded_up DueAtFirst completed → ⊥
 unfolding goes
-due-at-first-false says =
+due_at_first_false says =
     true≢false
-    (sym (says (after (setsFrom 2 0)) (reached (setsFrom 2 0) (are-calls (setsFrom 2 0) refl)) 1 (omega arith) refl
-    pastTheEnd (are-calls pastTheEnd refl) (λ e. refl, λ e. absurd (true≢false e)) (omega arith)))
+    (sym (says (after (sets_from 2 0)) (reached (sets_from 2 0) (are_calls_lem (sets_from 2 0) refl)) 1 (omega arith) refl
+    past_the_end (are_calls_lem past_the_end refl) (λ e. refl, λ e. absurd (true≢false e)) (omega arith)))

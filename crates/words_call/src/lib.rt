@@ -2,7 +2,7 @@
 // taken out of the words and called; under 0 the part that the call changes is put back, and under any other number
 // the words and every lent byte stay as they were.
 ghost use Rattle.std.specs.Prelude.{◌≡◌, length};
-ghost use Rattle.words_call.specs.Calls.{shownWords, ReadIn, SetIn, ConfirmedBy};
+ghost use Rattle.words_call.specs.Calls.{shown_words, ReadIn, SetIn, ConfirmedBy};
 
 use call_confirm::confirm_call;
 use call_read::{ReadAnswer, Shown, read_call};
@@ -30,7 +30,7 @@ pub fn read_in(node: &[u64; NODE_WORDS], domain: u8, t: u64, shown: &mut [u64; S
 
 fn put_shown(shown: &mut [u64], read: Shown)
     requires { length shown.old ≡ 3 }
-    ensures { shown.new ≡ shownWords read }
+    ensures { shown.new ≡ shown_words read }
 {
     let time = read.time;
     let user = read.user;

@@ -23,109 +23,109 @@ use Rattle.master_rules.specs.declared.due.Due.TheVariants.{At, No}
 use Rattle.master_send.specs.declared.SendAnswer.{SendAnswer}
 use Rattle.master_send.specs.declared.SendAnswer.TheVariants.{Sent, NotDue}
 use Rattle.master_send.specs.declared.SendStep.{SendStep}
-use Rattle.master_send.specs.Send.{is_at, isDue, dueIn, sendAs, sendOf}
-use Rattle.round.specs.Turn.{turn_of, nextPlace, nextAfter}
-use Rattle.round.specs.Round.{framesBy, sentAfter, pasted}
-use Rattle.node_words.specs.Words.{recordOf, sentPut}
-use Rattle.words_cycle.specs.Cycle.{hasSent, turnWords, TurnedIn}
+use Rattle.master_send.specs.Send.{is_at, is_due, due_in, send_as, send_of}
+use Rattle.round.specs.Turn.{turn_of, next_place, next_after}
+use Rattle.round.specs.Round.{frames_by, sent_after, pasted}
+use Rattle.node_words.specs.Words.{record_of, sent_put}
+use Rattle.words_cycle.specs.Cycle.{has_sent, turn_words, TurnedIn}
 
 -- ---- what `turn_in` promises
 module _ (words : List ℕ) (at : ℕ) (t : VirtualLocalTime) (before : List ℕ) (sent : ℕ) where
-  by-step :
-      (s : SendStep) (r : Bool) (after out : List ℕ) → s ≡ sendOf (recordOf words at) t → r ≡ hasSent s.answer →
-      after ≡ turnWords s words at →
-      out ≡ pasted sent (framesBy s.answer (recordOf words at).settings.ids) before →
+  by_step :
+      (s : SendStep) (r : Bool) (after out : List ℕ) → s ≡ send_of (record_of words at) t → r ≡ has_sent s.answer →
+      after ≡ turn_words s words at →
+      out ≡ pasted sent (frames_by s.answer (record_of words at).settings.ids) before →
       TurnedIn words at t before sent r after out
-  by-step s r after out e er ew eo =
+  by_step s r after out e er ew eo =
       record {
-        sends = er ∙ ap (λ (s : SendStep). hasSent s.answer) e;
-        words-after = ew ∙ ap (λ (s : SendStep). turnWords s words at) e;
+        sends = er ∙ ap (λ (s : SendStep). has_sent s.answer) e;
+        words_after_lem = ew ∙ ap (λ (s : SendStep). turn_words s words at) e;
         bytes =
             eo
-            ∙ ap (λ (s : SendStep). pasted sent (framesBy s.answer (recordOf words at).settings.ids) before) e;
+            ∙ ap (λ (s : SendStep). pasted sent (frames_by s.answer (record_of words at).settings.ids) before) e;
       }
 
-  no_step : (due : Due) (d : Domain) → is_at due ≡ false → sendAs No d t ≡ sendAs due d t
+  no_step : (due : Due) (d : Domain) → is_at due ≡ false → send_as No d t ≡ send_as due d t
   no_step (At seconds nanoseconds) d e = absurd (true≢false e)
   no_step No d e = refl
 
-  pub rests : isDue (recordOf words at) t ≡ false → TurnedIn words at t before sent false words before
+  pub rests : is_due (record_of words at) t ≡ false → TurnedIn words at t before sent false words before
   rests e =
-      let d = recordOf words at in by-step _ false words before (no_step (dueIn d t) d e) refl refl refl
+      let d = record_of words at in by_step _ false words before (no_step (due_in d t) d e) refl refl refl
 
   -- the record d that was taken out, and its step s
-  module _ (d : Domain) (s : SendStep) (below : at < places) (ed : d ≡ recordOf words (at % places))
-      (es : s ≡ sendOf d t) where
+  module _ (d : Domain) (s : SendStep) (below : at < places) (ed : d ≡ record_of words (at % places))
+      (es : s ≡ send_of d t) where
     same : at % places ≡ at
     same = mod-eq_of_lt below
 
-    here : d ≡ recordOf words at
-    here = ed ∙ ap (recordOf words) same
+    here : d ≡ record_of words at
+    here = ed ∙ ap (record_of words) same
 
-    its : s ≡ sendOf (recordOf words at) t
-    its = es ∙ ap (λ (d : Domain). sendOf d t) here
+    its : s ≡ send_of (record_of words at) t
+    its = es ∙ ap (λ (d : Domain). send_of d t) here
 
     pub step-rests : s.answer ≡ NotDue → TurnedIn words at t before sent false words before
-    step-rests e = by-step s false words before its (rw e) (rw e) (rw e)
+    step-rests e = by_step s false words before its (rw e) (rw e) (rw e)
 
     pub step-sends :
-        (sync : Sync) (after out : List ℕ) → s.answer ≡ Sent sync → after ≡ sentPut words (at % places) s.domain →
-        out ≡ pasted sent (framesBy (Sent sync) d.settings.ids) before →
+        (sync : Sync) (after out : List ℕ) → s.answer ≡ Sent sync → after ≡ sent_put words (at % places) s.domain →
+        out ≡ pasted sent (frames_by (Sent sync) d.settings.ids) before →
         TurnedIn words at t before sent true after out
     step-sends sync after out e ew eo =
-        by-step s true after out its (rw e)
-        (ew ∙ rw e (ap (λ (p : ℕ). sentPut words p s.domain) same))
-        (eo ∙ rw e (ap (λ (d : Domain). pasted sent (framesBy (Sent sync) d.settings.ids) before) here))
+        by_step s true after out its (rw e)
+        (ew ∙ rw e (ap (λ (p : ℕ). sent_put words p s.domain) same))
+        (eo ∙ rw e (ap (λ (d : Domain). pasted sent (frames_by (Sent sync) d.settings.ids) before) here))
 
 -- ---- what a turn changes: the words, how many have sent, where the next round starts, the bytes
 pub record Turned
     (s : SendStep) (words : List ℕ) (at sent next : ℕ) (out words' : List ℕ) (sent' next' : ℕ)
     (out' : List ℕ) : Type 0 where
-  pub words-after : words' ≡ turnWords s words at
-  pub count : sent' ≡ sentAfter s.answer sent
-  pub next_one : next' ≡ nextAfter s.answer at next
-  pub bytes : out' ≡ pasted sent (framesBy s.answer (recordOf words at).settings.ids) out
+  pub words_after_lem : words' ≡ turn_words s words at
+  pub count : sent' ≡ sent_after s.answer sent
+  pub next_one : next' ≡ next_after s.answer at next
+  pub bytes : out' ≡ pasted sent (frames_by s.answer (record_of words at).settings.ids) out
 
-counts : (a : SendAnswer) (sent : ℕ) → hasSent a ≡ true → sent + 1 ≡ sentAfter a sent
+counts : (a : SendAnswer) (sent : ℕ) → has_sent a ≡ true → sent + 1 ≡ sent_after a sent
 counts (Sent sync) sent e = refl
 counts NotDue sent e = absurd (true≢false (sym e))
 
 next_place :
-    (a : SendAnswer) (at next : ℕ) → at < places → hasSent a ≡ true → nextPlace places at ≡ nextAfter a at next
-next_place (Sent sync) at next h e = ap (nextPlace places) (sym (mod-eq_of_lt h))
+    (a : SendAnswer) (at next : ℕ) → at < places → has_sent a ≡ true → next_place places at ≡ next_after a at next
+next_place (Sent sync) at next h e = ap (next_place places) (sym (mod-eq_of_lt h))
 next_place NotDue at next h e = absurd (true≢false (sym e))
 
-unsent : (a : SendAnswer) → hasSent a ≡ false → NotDue ≡ a
+unsent : (a : SendAnswer) → has_sent a ≡ false → NotDue ≡ a
 unsent (Sent sync) e = absurd (true≢false e)
 unsent NotDue e = refl
 
 module _ (words : List ℕ) (at sent most next : ℕ) (t : VirtualLocalTime) (out : List ℕ) where
   abbrev pub One : (words' : List ℕ) (sent' next' : ℕ) (out' : List ℕ) → Type 0
-  One = Turned (turn_of (ltb sent most) (recordOf words at) t) words at sent next out
+  One = Turned (turn_of (ltb sent most) (record_of words at) t) words at sent next out
 
   pub over : most ≤ sent → One words sent next out
   over h =
       rw (le-ltb sent most h)
-      (record { words-after = refl; count = refl; next_one = refl; bytes = refl })
+      (record { words_after_lem = refl; count = refl; next_one = refl; bytes = refl })
 
   module _ (r : Bool) (words' out' : List ℕ) (h : sent < most) (p : TurnedIn words at t out sent r words' out') where
     pub asked-rests : r ≡ false → One words' sent next out'
     asked-rests e =
-        let no = unsent (sendOf (recordOf words at) t).answer (sym p.sends ∙ e) in
+        let no = unsent (send_of (record_of words at) t).answer (sym p.sends ∙ e) in
         rw (lt-ltb sent most h)
         (record {
-          words-after = p.words-after;
-          count = ap (λ (a : SendAnswer). sentAfter a sent) no;
-          next_one = ap (λ (a : SendAnswer). nextAfter a at next) no;
+          words_after_lem = p.words_after_lem;
+          count = ap (λ (a : SendAnswer). sent_after a sent) no;
+          next_one = ap (λ (a : SendAnswer). next_after a at next) no;
           bytes = p.bytes;
         })
 
-    pub asked-sends : r ≡ true → at < places → One words' (sent + 1) (nextPlace places at) out'
+    pub asked-sends : r ≡ true → at < places → One words' (sent + 1) (next_place places at) out'
     asked-sends e b =
-        let a = (sendOf (recordOf words at) t).answer in
+        let a = (send_of (record_of words at) t).answer in
         rw (lt-ltb sent most h)
         (record {
-          words-after = p.words-after;
+          words_after_lem = p.words_after_lem;
           count = counts a sent (sym p.sends ∙ e);
           next_one = next_place a at next b (sym p.sends ∙ e);
           bytes = p.bytes;

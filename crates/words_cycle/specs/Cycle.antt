@@ -4,24 +4,24 @@ use Rattle.clock.specs.declared.reading.VirtualLocalTime.{VirtualLocalTime}
 use Rattle.refusal.specs.declared.Refusal.TheVariants.{Reading, NoRoom}
 use Rattle.refusal.specs.Numbers.{number_of}
 use Rattle.settings.specs.Node.{places}
-use Rattle.admission.specs.Reading.{isGoodReading}
+use Rattle.admission.specs.Reading.{is_good_reading}
 use Rattle.master_send.specs.declared.SendAnswer.{SendAnswer}
 use Rattle.master_send.specs.declared.SendAnswer.TheVariants.{Sent, NotDue}
 use Rattle.master_send.specs.declared.SendStep.{SendStep}
-use Rattle.master_send.specs.Send.{sendOf}
-use Rattle.round.specs.Turn.{turn_of, nextPlace, nextAfter}
-use Rattle.round.specs.Round.{framesBy, sentAfter, pasted}
-use Rattle.node_words.specs.Words.{keptOf, recordOf, sentPut}
-use Rattle.node_words.specs.Node.{syncsOf, roundOf, headWord}
+use Rattle.master_send.specs.Send.{send_of}
+use Rattle.round.specs.Turn.{turn_of, next_place, next_after}
+use Rattle.round.specs.Round.{frames_by, sent_after, pasted}
+use Rattle.node_words.specs.Words.{kept_of, record_of, sent_put}
+use Rattle.node_words.specs.Node.{syncs_of, round_of, head_word}
 use Rattle.words_cycle.specs.declared.turns.Gone.{Gone}
 
 -- ---- The words after a record's turn: those of its SYNC where it sent.
-abbrev pub hasSent : SendAnswer → Bool
-hasSent (Sent sync) = true
-hasSent NotDue = false
+abbrev pub has_sent : SendAnswer → Bool
+has_sent (Sent sync) = true
+has_sent NotDue = false
 
-abbrev pub turnWords : SendStep → List ℕ → (at : ℕ) → List ℕ
-turnWords s words at = cond (hasSent s.answer) (sentPut words at s.domain) words
+abbrev pub turn_words : SendStep → List ℕ → (at : ℕ) → List ℕ
+turn_words s words at = cond (has_sent s.answer) (sent_put words at s.domain) words
 
 -- ---- The words after some turns, where the next round starts, and the frames sent.
 pub record Went : Type 0 where
@@ -36,47 +36,47 @@ before frames g = record { words = g.words; next = g.next; frames = frames ++ g.
 unfoldable pub goes : (turns at sent most : ℕ) → VirtualLocalTime → List ℕ → (next : ℕ) → Went
 goes zero at sent most t words next = record { words = words; next = next; frames = [] }
 goes (suc turns) at sent most t words next =
-    let s = turn_of (ltb sent most) (recordOf words at) t in
-    before (framesBy s.answer (recordOf words at).settings.ids)
-    (goes turns (nextPlace places at) (sentAfter s.answer sent) most t (turnWords s words at)
-    (nextAfter s.answer at next))
+    let s = turn_of (ltb sent most) (record_of words at) t in
+    before (frames_by s.answer (record_of words at).settings.ids)
+    (goes turns (next_place places at) (sent_after s.answer sent) most t (turn_words s words at)
+    (next_after s.answer at next))
 
-abbrev pub wentBy : List ℕ → (first : ℕ) → VirtualLocalTime → (most : ℕ) → Went
-wentBy words first t most = goes places (first % places) 0 most t words first
+abbrev pub went_by : List ℕ → (first : ℕ) → VirtualLocalTime → (most : ℕ) → Went
+went_by words first t most = goes places (first % places) 0 most t words first
 
 -- ---- 1, 12: the number, and the words after it.
-abbrev pub cycleNumberIn : List ℕ → (t room : ℕ) → ℕ
-cycleNumberIn words t room =
-    cond (isGoodReading (keptOf words) (record { 0 = t }))
-    (cond (leb (8 * syncsOf words) room) 0 (number_of NoRoom))
+abbrev pub cycle_number_in : List ℕ → (t room : ℕ) → ℕ
+cycle_number_in words t room =
+    cond (is_good_reading (kept_of words) (record { 0 = t }))
+    (cond (leb (8 * syncs_of words) room) 0 (number_of NoRoom))
     (number_of Reading)
 
-abbrev pub wentFrom : List ℕ → (t : ℕ) → Went
-wentFrom words t = wentBy words (roundOf words) (record { 0 = t }) (syncsOf words)
+abbrev pub went_from : List ℕ → (t : ℕ) → Went
+went_from words t = went_by words (round_of words) (record { 0 = t }) (syncs_of words)
 
-abbrev pub cycledWords : List ℕ → (t : ℕ) → List ℕ
-cycledWords words t =
-    set (set (wentFrom words t).words 0 t) 1 (headWord (syncsOf words) (wentFrom words t).next)
+abbrev pub cycled_words : List ℕ → (t : ℕ) → List ℕ
+cycled_words words t =
+    set (set (went_from words t).words 0 t) 1 (head_word (syncs_of words) (went_from words t).next)
 
 -- ---- The promises: what is answered, every word and every lent byte.
 pub record TurnedIn
     (words : List ℕ) (at : ℕ) (t : VirtualLocalTime) (before : List ℕ) (sent : ℕ)
     (r : Bool) (after out : List ℕ) : Type 0 where
-  pub sends : r ≡ hasSent (sendOf (recordOf words at) t).answer
-  pub words-after : after ≡ turnWords (sendOf (recordOf words at) t) words at
+  pub sends : r ≡ has_sent (send_of (record_of words at) t).answer
+  pub words_after_lem : after ≡ turn_words (send_of (record_of words at) t) words at
   pub bytes :
-      out ≡ pasted sent (framesBy (sendOf (recordOf words at) t).answer (recordOf words at).settings.ids) before
+      out ≡ pasted sent (frames_by (send_of (record_of words at) t).answer (record_of words at).settings.ids) before
 
 pub record GoneIn
     (words : List ℕ) (first : ℕ) (t : VirtualLocalTime) (most : ℕ) (before : List ℕ)
     (r : Gone) (after out : List ℕ) : Type 0 where
-  pub gone : r ≡ record { next = (wentBy words first t most).next; sent = length (wentBy words first t most).frames }
-  pub words-after : after ≡ (wentBy words first t most).words
-  pub bytes : out ≡ pasted 0 (wentBy words first t most).frames before
+  pub gone : r ≡ record { next = (went_by words first t most).next; sent = length (went_by words first t most).frames }
+  pub words_after_lem : after ≡ (went_by words first t most).words
+  pub bytes : out ≡ pasted 0 (went_by words first t most).frames before
 
 pub record CycledBy
     (words : List ℕ) (t : ℕ) (before told : List ℕ) (r : ℕ) (after out sent : List ℕ) : Type 0 where
-  pub number : r ≡ cycleNumberIn words t (length before)
-  pub words-after : after ≡ cond (eqb r 0) (cycledWords words t) words
-  pub bytes : out ≡ cond (eqb r 0) (pasted 0 (wentFrom words t).frames before) before
-  pub counts : sent ≡ cond (eqb r 0) (length (wentFrom words t).frames ∷ []) told
+  pub number : r ≡ cycle_number_in words t (length before)
+  pub words_after_lem : after ≡ cond (eqb r 0) (cycled_words words t) words
+  pub bytes : out ≡ cond (eqb r 0) (pasted 0 (went_from words t).frames before) before
+  pub counts : sent ≡ cond (eqb r 0) (length (went_from words t).frames ∷ []) told

@@ -1,8 +1,8 @@
 // The turns of a main cycle over a node in words.
 ghost use Rattle.std.specs.Prelude.{◌≤◌, ◌<◌, ◌≡◌, length};
 ghost use Rattle.settings.specs.Node.{places};
-ghost use Rattle.master_send.specs.Send.{isDue};
-ghost use Rattle.node_words.specs.Words.{nodeSize, recordBy, recordOf};
+ghost use Rattle.master_send.specs.Send.{is_due};
+ghost use Rattle.node_words.specs.Words.{node_size, record_by, record_of};
 ghost use Rattle.words_cycle.specs.Cycle.{TurnedIn, GoneIn};
 
 use clock::VirtualLocalTime;
@@ -82,9 +82,9 @@ fn turn_in(
 
 // Whether the record at a place is due, by the words that this needs.
 fn due_in(node: &[u64], at: usize, t: VirtualLocalTime) -> bool
-    requires node_len { length node.now ≡ nodeSize }
+    requires node_len { length node.now ≡ node_size }
     requires at_lt_places { at < places }
-    ensures { result ≡ isDue (recordOf node.now at) t }
+    ensures { result ≡ is_due (record_of node.now at) t }
 {
     let from = HEAD_WORDS + RECORD_WORDS * at;
     let state = from + SETTINGS_WORDS;
@@ -94,7 +94,7 @@ fn due_in(node: &[u64], at: usize, t: VirtualLocalTime) -> bool
 fn due_by(given: &[u64], state: &[u64], t: VirtualLocalTime) -> bool
     requires given_len { length given.now ≡ 11 }
     requires state_len { length state.now ≡ 11 }
-    ensures { result ≡ isDue (recordBy given.now state.now) t }
+    ensures { result ≡ is_due (record_by given.now state.now) t }
 {
     let kinds = given[5];
     if kinds / 4_294_967_296 % 256 != 2 {

@@ -9,20 +9,20 @@ use Rattle.promise.specs.Only.{OnlyOne}
 use Rattle.words_frame.specs.Frame.{FramedIn}
 use Rattle.words_frame.specs.Queue.{QueuedIn}
 
-pub frame-in-only :
+pub frame_in_only :
     (words : List ℕ) (t : ℕ) (bytes : List ℕ) (before : List ℤ) →
     OnlyOne (λ (r : ℕ × (List ℕ × List ℤ)). FramedIn words t bytes before r.0 r.1.0 r.1.1)
-frame-in-only words t bytes before x y p q =
+frame_in_only words t bytes before x y p q =
     let number = p.number ∙ sym q.number in
-    let after = p.words-after ∙ sym q.words-after in
+    let after = p.words_after_lem ∙ sym q.words_after_lem in
     let tells = p.tells ∙ sym q.tells in
     λ i. (number i, (after i, tells i))
 
-pub queue-in-only :
+pub queue_in_only :
     (words ts fs before : List ℕ) →
     OnlyOne (λ (r : ℕ × (List ℕ × List ℕ)). QueuedIn words ts fs before r.0 r.1.0 r.1.1)
-queue-in-only words ts fs before x y p q =
+queue_in_only words ts fs before x y p q =
     let number = p.number ∙ sym q.number in
-    let after = p.words-after ∙ sym q.words-after in
+    let after = p.words_after_lem ∙ sym q.words_after_lem in
     let bytes = p.bytes ∙ sym q.bytes in
     λ i. (number i, (after i, bytes i))

@@ -12,21 +12,21 @@ use native.Mathlib.Omega.{arith}
 use lib.ListN.{length, get_or, set, take, drop, take-append-drop}
 use lib.Seq.{append_snoc, drop-cons, drop-drop, drop-length, drop-set-lt, take-suc-set}
 use Rattle.slave_answer.specs.declared.FrameAnswer.{FrameAnswer}
-use Rattle.slave_answer.specs.Answer.{frameNumber}
+use Rattle.slave_answer.specs.Answer.{frame_number}
 use Rattle.node_queue.specs.declared.QueueAnswer.{QueueAnswer}
 use Rattle.node_queue.specs.declared.QueueAnswer.TheVariants.{Taken}
-use Rattle.node_queue.specs.Queue.{queueAnswer, queueNumber}
-use Rattle.words_frame.specs.Frame.{calledIn, frameWords, TakenIn}
-use Rattle.words_frame.specs.Queue.{framesWords, framesNumbers, queueWords, queueNumbers, QueuedIn}
+use Rattle.node_queue.specs.Queue.{queue_answer, queue_number}
+use Rattle.words_frame.specs.Frame.{called_in, frame_words, TakenIn}
+use Rattle.words_frame.specs.Queue.{frames_words, frames_numbers, queue_words, queue_numbers, QueuedIn}
 
 pub record Rest (whole filled ts fs : List ℕ) (i : ℕ) (words out : List ℕ) : Type 0 where
-  pub words-after : framesWords words (drop i ts) (drop (8 * i) fs) ≡ whole
-  pub bytes : take i out ++ framesNumbers words (drop i ts) (drop (8 * i) fs) ++ drop (length ts) out ≡ filled
+  pub words_after_lem : frames_words words (drop i ts) (drop (8 * i) fs) ≡ whole
+  pub bytes : take i out ++ frames_numbers words (drop i ts) (drop (8 * i) fs) ++ drop (length ts) out ≡ filled
 
 module _ (whole filled ts fs : List ℕ) (i : ℕ) (words out : List ℕ) (answer : FrameAnswer) (words' : List ℕ) (b : ℕ)
     (h : i < length ts) (room : i < length out)
     (taken : TakenIn words (get_or ts i 0) (take (8 * i + 8 - 8 * i) (drop (8 * i) fs)) answer words')
-    (number : b ≡ frameNumber answer) where
+    (number : b ≡ frame_number answer) where
   -- ---- the frame at the place, the reading there, and what is behind them
 
   frame : take (8 * i + 8 - 8 * i) (drop (8 * i) fs) ≡ take 8 (drop (8 * i) fs)
@@ -34,13 +34,13 @@ module _ (whole filled ts fs : List ℕ) (i : ℕ) (words out : List ℕ) (answe
       let eight : 8 * i + 8 - 8 * i ≡ 8 = omega arith in
       ap (λ (k : ℕ). take k (drop (8 * i) fs)) eight
 
-  stepped : words' ≡ frameWords words (get_or ts i 0) (take 8 (drop (8 * i) fs))
-  stepped = taken.words-after ∙ ap (frameWords words (get_or ts i 0)) frame
+  stepped : words' ≡ frame_words words (get_or ts i 0) (take 8 (drop (8 * i) fs))
+  stepped = taken.words_after_lem ∙ ap (frame_words words (get_or ts i 0)) frame
 
-  answered : b ≡ frameNumber (calledIn words (get_or ts i 0) (take 8 (drop (8 * i) fs))).answer
+  answered : b ≡ frame_number (called_in words (get_or ts i 0) (take 8 (drop (8 * i) fs))).answer
   answered =
-      number ∙ ap frameNumber taken.answer
-      ∙ ap (λ (bytes : List ℕ). frameNumber (calledIn words (get_or ts i 0) bytes).answer) frame
+      number ∙ ap frame_number taken.answer
+      ∙ ap (λ (bytes : List ℕ). frame_number (called_in words (get_or ts i 0) bytes).answer) frame
 
   reading : get_or ts i 0 ∷ drop (i + 1) ts ≡ drop i ts
   reading = ap (λ (k : ℕ). get_or ts i 0 ∷ drop k ts) (add-one i) ∙ sym (drop-cons ts i 0 h)
@@ -53,22 +53,22 @@ module _ (whole filled ts fs : List ℕ) (i : ℕ) (words out : List ℕ) (answe
   -- ---- what is left decides
 
   numbers :
-      b ∷ framesNumbers words' (drop (i + 1) ts) (drop (8 * (i + 1)) fs)
-      ≡ framesNumbers words (drop i ts) (drop (8 * i) fs)
+      b ∷ frames_numbers words' (drop (i + 1) ts) (drop (8 * (i + 1)) fs)
+      ≡ frames_numbers words (drop i ts) (drop (8 * i) fs)
   numbers =
-      (λ k. answered k ∷ framesNumbers (stepped k) (drop (i + 1) ts) (behind k))
-      ∙ ap (λ (l : List ℕ). framesNumbers words l (drop (8 * i) fs)) reading
+      (λ k. answered k ∷ frames_numbers (stepped k) (drop (i + 1) ts) (behind k))
+      ∙ ap (λ (l : List ℕ). frames_numbers words l (drop (8 * i) fs)) reading
 
   written : take (i + 1) (set out i b) ≡ take i out ++ (b ∷ [])
   written = ap (λ (k : ℕ). take k (set out i b)) (add-one i) ∙ take-suc-set out i b room
 
   pub onward : Rest whole filled ts fs i words out → Rest whole filled ts fs (i + 1) words' (set out i b)
   onward r =
-      let left = framesNumbers words' (drop (i + 1) ts) (drop (8 * (i + 1)) fs) in
+      let left = frames_numbers words' (drop (i + 1) ts) (drop (8 * (i + 1)) fs) in
       record {
-        words-after =
-            (λ k. framesWords (stepped k) (drop (i + 1) ts) (behind k))
-            ∙ ap (λ (l : List ℕ). framesWords words l (drop (8 * i) fs)) reading ∙ r.words-after;
+        words_after_lem =
+            (λ k. frames_words (stepped k) (drop (i + 1) ts) (behind k))
+            ∙ ap (λ (l : List ℕ). frames_words words l (drop (8 * i) fs)) reading ∙ r.words_after_lem;
         bytes =
             (λ k. written k ++ left ++ drop-set-lt (length ts) out i b h k)
             ∙ ap (λ (l : List ℕ). l ++ drop (length ts) out)
@@ -78,25 +78,25 @@ module _ (whole filled ts fs : List ℕ) (i : ℕ) (words out : List ℕ) (answe
 
 module _ (words ts fs before : List ℕ) where
   pub queued :
-      (a : QueueAnswer) (r : ℕ) (after out : List ℕ) → a ≡ queueAnswer (length ts) (length fs) (length before) →
-      r ≡ queueNumber a → after ≡ queueWords a words ts fs → out ≡ queueNumbers a words ts fs before →
+      (a : QueueAnswer) (r : ℕ) (after out : List ℕ) → a ≡ queue_answer (length ts) (length fs) (length before) →
+      r ≡ queue_number a → after ≡ queue_words a words ts fs → out ≡ queue_numbers a words ts fs before →
       QueuedIn words ts fs before r after out
-  queued a r after out e number words-after bytes =
+  queued a r after out e number words_after_lem bytes =
       record {
-        number = number ∙ ap queueNumber e;
-        words-after = words-after ∙ ap (λ (a : QueueAnswer). queueWords a words ts fs) e;
-        bytes = bytes ∙ ap (λ (a : QueueAnswer). queueNumbers a words ts fs before) e;
+        number = number ∙ ap queue_number e;
+        words_after_lem = words_after_lem ∙ ap (λ (a : QueueAnswer). queue_words a words ts fs) e;
+        bytes = bytes ∙ ap (λ (a : QueueAnswer). queue_numbers a words ts fs before) e;
       }
 
-  pub at-end :
-      (i : ℕ) (after out : List ℕ) → i ≡ length ts → Taken ≡ queueAnswer (length ts) (length fs) (length before) →
-      Rest (queueWords Taken words ts fs) (queueNumbers Taken words ts fs before) ts fs i after out →
+  pub at_end :
+      (i : ℕ) (after out : List ℕ) → i ≡ length ts → Taken ≡ queue_answer (length ts) (length fs) (length before) →
+      Rest (queue_words Taken words ts fs) (queue_numbers Taken words ts fs before) ts fs i after out →
       QueuedIn words ts fs before 0 after out
-  at-end i after out e taken r =
+  at_end i after out e taken r =
       let none = ap (λ (k : ℕ). drop k ts) e ∙ drop-length ts in
       queued Taken 0 after out taken refl
-      (sym (ap (λ (l : List ℕ). framesWords after l (drop (8 * i) fs)) none) ∙ r.words-after)
+      (sym (ap (λ (l : List ℕ). frames_words after l (drop (8 * i) fs)) none) ∙ r.words_after_lem)
       (sym (take-append-drop i out) ∙ ap (λ (l : List ℕ). l ++ drop i out) (sym (append-nil (take i out)))
       ∙ ap (λ (k : ℕ). take i out ++ [] ++ drop k out) e
-      ∙ sym (ap (λ (l : List ℕ). take i out ++ framesNumbers after l (drop (8 * i) fs) ++ drop (length ts) out) none)
+      ∙ sym (ap (λ (l : List ℕ). take i out ++ frames_numbers after l (drop (8 * i) fs) ++ drop (length ts) out) none)
       ∙ r.bytes)

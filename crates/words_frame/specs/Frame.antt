@@ -2,26 +2,26 @@
 use Rattle.std.specs.Prelude.{ℕ, ◌≡◌, Bool, cond, ◌||◌, List, [], ◌∷◌, eqb, ℤ, pos, set}
 use Rattle.slave_answer.specs.declared.FrameAnswer.{FrameAnswer}
 use Rattle.slave_answer.specs.declared.FrameAnswer.TheVariants.{SyncTaken, FirstTaken, Updated, Refused}
-use Rattle.slave_answer.specs.Answer.{frameNumber}
+use Rattle.slave_answer.specs.Answer.{frame_number}
 use Rattle.call_frame.specs.declared.FrameCall.{FrameCall}
-use Rattle.call_frame.specs.FrameCall.{frameCallOf}
-use Rattle.node.specs.Frame.{addressedBy}
-use Rattle.node_words.specs.Words.{keptOf, recordOf, framePut}
+use Rattle.call_frame.specs.FrameCall.{frame_call_of}
+use Rattle.node.specs.Frame.{addressed_by}
+use Rattle.node_words.specs.Words.{kept_of, record_of, frame_put}
 
 -- ---- The call of the record that the frame names.
-abbrev pub calledIn : List ℕ → (t : ℕ) → List ℕ → FrameCall
-calledIn words t bytes = frameCallOf (recordOf words (addressedBy bytes)) (keptOf words) (record { 0 = t }) bytes
+abbrev pub called_in : List ℕ → (t : ℕ) → List ℕ → FrameCall
+called_in words t bytes = frame_call_of (record_of words (addressed_by bytes)) (kept_of words) (record { 0 = t }) bytes
 
 -- ---- The words after it: what was taken is put back, and what 6 and 15 keep of a row.
-abbrev pub isStored : (number : ℕ) → Bool
-isStored number = eqb number 0 || eqb number 6 || eqb number 15
+abbrev pub is_stored : (number : ℕ) → Bool
+is_stored number = eqb number 0 || eqb number 6 || eqb number 15
 
-abbrev pub storedBy : List ℕ → (at : ℕ) → FrameCall → List ℕ
-storedBy words at call =
-    cond (isStored (frameNumber call.answer)) (framePut (set words 0 call.kept.0) at call.domain) words
+abbrev pub stored_by : List ℕ → (at : ℕ) → FrameCall → List ℕ
+stored_by words at call =
+    cond (is_stored (frame_number call.answer)) (frame_put (set words 0 call.kept.0) at call.domain) words
 
-abbrev pub frameWords : List ℕ → (t : ℕ) → List ℕ → List ℕ
-frameWords words t bytes = storedBy words (addressedBy bytes) (calledIn words t bytes)
+abbrev pub frame_words : List ℕ → (t : ℕ) → List ℕ → List ℕ
+frame_words words t bytes = stored_by words (addressed_by bytes) (called_in words t bytes)
 
 -- ---- What is told of it: 1 a SYNC, 2 the first time, 3 an update with its D; of a refused frame nothing.
 abbrev pub told : FrameAnswer → List ℤ → List ℤ
@@ -32,11 +32,11 @@ told (Refused refusal) before = before
 
 -- ---- The promises: the answer, every word, and what is told.
 pub record TakenIn (words : List ℕ) (t : ℕ) (bytes : List ℕ) (r : FrameAnswer) (after : List ℕ) : Type 0 where
-  pub answer : r ≡ (calledIn words t bytes).answer
-  pub words-after : after ≡ frameWords words t bytes
+  pub answer : r ≡ (called_in words t bytes).answer
+  pub words_after_lem : after ≡ frame_words words t bytes
 
 pub record FramedIn
     (words : List ℕ) (t : ℕ) (bytes : List ℕ) (before : List ℤ) (r : ℕ) (after : List ℕ) (taken : List ℤ) : Type 0 where
-  pub number : r ≡ frameNumber (calledIn words t bytes).answer
-  pub words-after : after ≡ frameWords words t bytes
-  pub tells : taken ≡ told (calledIn words t bytes).answer before
+  pub number : r ≡ frame_number (called_in words t bytes).answer
+  pub words_after_lem : after ≡ frame_words words t bytes
+  pub tells : taken ≡ told (called_in words t bytes).answer before

@@ -1,34 +1,34 @@
 -- Paper 02, request 4, on a node in words. Assumes nothing.
 use Rattle.std.specs.Prelude.{ℕ, ◌≡◌, List, [], ◌∷◌, ◌++◌, length, take, drop}
-use Rattle.slave_answer.specs.Answer.{frameNumber}
+use Rattle.slave_answer.specs.Answer.{frame_number}
 use Rattle.node_queue.specs.declared.QueueAnswer.{QueueAnswer}
 use Rattle.node_queue.specs.declared.QueueAnswer.TheVariants.{Taken, Refused}
-use Rattle.node_queue.specs.Queue.{queueAnswer, queueNumber}
-use Rattle.words_frame.specs.Frame.{calledIn, frameWords}
+use Rattle.node_queue.specs.Queue.{queue_answer, queue_number}
+use Rattle.words_frame.specs.Frame.{called_in, frame_words}
 
 -- ---- "frame-by-frame calls in that order": the words after them, and the number of each
-abbrev pub framesWords : List ℕ → (readings frames : List ℕ) → List ℕ
-framesWords words [] fs = words
-framesWords words (t ∷ ts) fs = framesWords (frameWords words t (take 8 fs)) ts (drop 8 fs)
+abbrev pub frames_words : List ℕ → (readings frames : List ℕ) → List ℕ
+frames_words words [] fs = words
+frames_words words (t ∷ ts) fs = frames_words (frame_words words t (take 8 fs)) ts (drop 8 fs)
 
-abbrev pub framesNumbers : List ℕ → (readings frames : List ℕ) → List ℕ
-framesNumbers words [] fs = []
-framesNumbers words (t ∷ ts) fs =
-    frameNumber (calledIn words t (take 8 fs)).answer
-    ∷ framesNumbers (frameWords words t (take 8 fs)) ts (drop 8 fs)
+abbrev pub frames_numbers : List ℕ → (readings frames : List ℕ) → List ℕ
+frames_numbers words [] fs = []
+frames_numbers words (t ∷ ts) fs =
+    frame_number (called_in words t (take 8 fs)).answer
+    ∷ frames_numbers (frame_words words t (take 8 fs)) ts (drop 8 fs)
 
 -- ---- "then nothing is taken"
-abbrev pub queueWords : QueueAnswer → List ℕ → (readings frames : List ℕ) → List ℕ
-queueWords Taken words ts fs = framesWords words ts fs
-queueWords (Refused refusal) words ts fs = words
+abbrev pub queue_words : QueueAnswer → List ℕ → (readings frames : List ℕ) → List ℕ
+queue_words Taken words ts fs = frames_words words ts fs
+queue_words (Refused refusal) words ts fs = words
 
-abbrev pub queueNumbers : QueueAnswer → List ℕ → (readings frames before : List ℕ) → List ℕ
-queueNumbers Taken words ts fs before = framesNumbers words ts fs ++ drop (length ts) before
-queueNumbers (Refused refusal) words ts fs before = before
+abbrev pub queue_numbers : QueueAnswer → List ℕ → (readings frames before : List ℕ) → List ℕ
+queue_numbers Taken words ts fs before = frames_numbers words ts fs ++ drop (length ts) before
+queue_numbers (Refused refusal) words ts fs before = before
 
 -- ---- The promise: the number, every word, and every lent byte.
 pub record QueuedIn
     (words ts fs before : List ℕ) (r : ℕ) (after : List ℕ) (answers : List ℕ) : Type 0 where
-  pub number : r ≡ queueNumber (queueAnswer (length ts) (length fs) (length before))
-  pub words-after : after ≡ queueWords (queueAnswer (length ts) (length fs) (length before)) words ts fs
-  pub bytes : answers ≡ queueNumbers (queueAnswer (length ts) (length fs) (length before)) words ts fs before
+  pub number : r ≡ queue_number (queue_answer (length ts) (length fs) (length before))
+  pub words_after_lem : after ≡ queue_words (queue_answer (length ts) (length fs) (length before)) words ts fs
+  pub bytes : answers ≡ queue_numbers (queue_answer (length ts) (length fs) (length before)) words ts fs before

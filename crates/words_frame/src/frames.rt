@@ -1,6 +1,6 @@
 // A frame to a node in words.
 ghost use Rattle.std.specs.Prelude.{◌≡◌, ◌∷◌, [], length};
-ghost use Rattle.words_frame.specs.Frame.{isStored, TakenIn, FramedIn, told};
+ghost use Rattle.words_frame.specs.Frame.{is_stored, TakenIn, FramedIn, told};
 
 use call_frame::frame_call;
 use clock::VirtualLocalTime;
@@ -38,7 +38,7 @@ pub(crate) fn take_in(node: &mut [u64; NODE_WORDS], t: u64, bytes: &[u8]) -> Fra
 
 // Whether a frame's number leaves something in the record.
 fn is_stored(number: u8) -> bool
-    ensures { result ≡ isStored number }
+    ensures { result ≡ is_stored number }
 {
     match number {
         0 => true,

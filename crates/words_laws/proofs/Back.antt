@@ -23,155 +23,155 @@ use Rattle.settings.specs.declared.domain_settings.Role.TheVariants.{Absent, Sla
 use Rattle.settings.specs.declared.node_settings.NodeSettings.{NodeSettings}
 use Rattle.settings.specs.declared.node_settings.Verdict.{Verdict}
 use Rattle.settings.specs.declared.node_settings.Verdict.TheVariants.{Good, Refused}
-use Rattle.settings.specs.Domain.{absentHeld, heldAs, held_of}
-use Rattle.settings.specs.Node.{places, judgedOf}
+use Rattle.settings.specs.Domain.{absent_held, held_as, held_of}
+use Rattle.settings.specs.Node.{places, judged_of}
 use Rattle.domain.specs.declared.Domain.{Domain}
 use Rattle.domain.specs.Fresh.{fresh_of}
-use Rattle.domain.specs.Records.{recordAt}
+use Rattle.domain.specs.Records.{record_at}
 use Rattle.node.specs.declared.Node.{Node}
-use Rattle.node.specs.New.{recordsOf, freshNode, newAs, newOf}
-use Rattle.record_words.specs.Record.{settingsOf, number_of, domainOf, settingsWords, stateWords}
+use Rattle.node.specs.New.{records_of, fresh_node, new_as, new_of}
+use Rattle.record_words.specs.Record.{settings_of, number_of, domain_of, settings_words, state_words}
 use Rattle.record_words.specs.Fits.{SettingsFit}
 use Rattle.record_words.proofs.Unpacked.{unpacked}
-use Rattle.record_words.proofs.Back.{state-back, settings-back, number-back, words-fit, settings-fit}
-use Rattle.node_words.specs.Words.{nodeSize, settingsAt, stateAt, part_of, recordBy, recordOf}
+use Rattle.record_words.proofs.Back.{state_back, settings_back, number_back, words_fit, settings_fit}
+use Rattle.node_words.specs.Words.{node_size, settings_at, state_at, part_of, record_by, record_of}
 use Rattle.node_words.specs.Node.{
-  listBy,
-  syncsOf,
-  roundOf,
+  list_by,
+  syncs_of,
+  round_of,
   node_of,
-  recordWords,
-  recordsWords,
-  nodeWords,
+  record_words,
+  records_words,
+  node_words,
   RecordFits,
   NodeFits,
 }
-use Rattle.words_laws.proofs.Parts.{by-at}
+use Rattle.words_laws.proofs.Parts.{by_at}
 
 -- ---- the size
 
-records-size : (ds : List Domain) → length (recordsWords ds) ≡ 22 * length ds
-records-size [] = refl
-records-size (d ∷ rest) =
-    omega (arith, length-append (recordWords d) (recordsWords rest), records-size rest)
+records_size : (ds : List Domain) → length (records_words ds) ≡ 22 * length ds
+records_size [] = refl
+records_size (d ∷ rest) =
+    omega (arith, length-append (record_words d) (records_words rest), records_size rest)
 
-pub node-size : (n : Node) → length n.domains ≡ places → length (nodeWords n) ≡ nodeSize
-node-size n sixteen = omega (arith, records-size n.domains)
+pub node_size_lem : (n : Node) → length n.domains ≡ places → length (node_words n) ≡ node_size
+node_size_lem n sixteen = omega (arith, records_size n.domains)
 
 -- ---- a record in the words of records
 
-records-drop :
+records_drop :
     (ds : List Domain) (i from : ℕ) (other : Domain) → i < length ds → from ≡ 22 * i →
-    drop from (recordsWords ds) ≡ recordWords (get_or ds i other) ++ recordsWords (drop (suc i) ds)
-records-drop [] i from other h q = absurd (omega arith)
-records-drop (d ∷ rest) zero from other h q =
+    drop from (records_words ds) ≡ record_words (get_or ds i other) ++ records_words (drop (suc i) ds)
+records_drop [] i from other h q = absurd (omega arith)
+records_drop (d ∷ rest) zero from other h q =
     let first : from ≡ 0 = omega arith in
-    ap (λ (k : ℕ). drop k (recordsWords (d ∷ rest))) first
-records-drop (d ∷ rest) (suc i) from other h q =
+    ap (λ (k : ℕ). drop k (records_words (d ∷ rest))) first
+records_drop (d ∷ rest) (suc i) from other h q =
     let later : from ≡ 22 + 22 * i = omega arith in
-    ap (λ (k : ℕ). drop k (recordsWords (d ∷ rest))) later
-    ∙ drop-append-add (recordWords d) (recordsWords rest) (22 * i)
-    ∙ records-drop rest i (22 * i) other (omega arith) refl
+    ap (λ (k : ℕ). drop k (records_words (d ∷ rest))) later
+    ∙ drop-append-add (record_words d) (records_words rest) (22 * i)
+    ∙ records_drop rest i (22 * i) other (omega arith) refl
 
 -- ---- and in those of a node
 
-record-says : (d : Domain) → RecordFits d → recordBy (settingsWords d.settings d.number) (stateWords d) ≡ d
-record-says d f =
-    let given = settingsWords d.settings d.number in
-    ap (λ (s : DomainSettings). domainOf s (number_of given) (stateWords d))
-    (settings-back d.settings d.number f.settings f.number)
-    ∙ ap (λ (k : ℕ). domainOf d.settings k (stateWords d))
-    (number-back d.settings d.number f.settings f.number)
-    ∙ state-back d f.state
+record_says : (d : Domain) → RecordFits d → record_by (settings_words d.settings d.number) (state_words d) ≡ d
+record_says d f =
+    let given = settings_words d.settings d.number in
+    ap (λ (s : DomainSettings). domain_of s (number_of given) (state_words d))
+    (settings_back d.settings d.number f.settings f.number)
+    ∙ ap (λ (k : ℕ). domain_of d.settings k (state_words d))
+    (number_back d.settings d.number f.settings f.number)
+    ∙ state_back d f.state
 
 module _ (n : Node) (f : NodeFits n) (i : ℕ) (lt : i < places) where
   abbrev d : Domain
-  d = recordAt n.domains i
+  d = record_at n.domains i
 
   abbrev behind : List ℕ
-  behind = recordsWords (drop (suc i) n.domains)
+  behind = records_words (drop (suc i) n.domains)
 
-  at-record : drop (settingsAt i) (nodeWords n) ≡ recordWords d ++ behind
-  at-record =
-      sym (drop-drop (22 * i) 2 (nodeWords n))
-      ∙ records-drop n.domains i (22 * i) _ (omega (arith, f.sixteen)) refl
+  at_record : drop (settings_at i) (node_words n) ≡ record_words d ++ behind
+  at_record =
+      sym (drop-drop (22 * i) 2 (node_words n))
+      ∙ records_drop n.domains i (22 * i) _ (omega (arith, f.sixteen)) refl
 
-  at-state : drop (stateAt i) (nodeWords n) ≡ stateWords d ++ behind
-  at-state =
-      let later : settingsAt i + 11 ≡ stateAt i = omega arith in
-      sym (drop-drop 11 (settingsAt i) (nodeWords n) ∙ ap (λ (k : ℕ). drop k (nodeWords n)) later)
-      ∙ ap (drop 11) at-record
+  at_state : drop (state_at i) (node_words n) ≡ state_words d ++ behind
+  at_state =
+      let later : settings_at i + 11 ≡ state_at i = omega arith in
+      sym (drop-drop 11 (settings_at i) (node_words n) ∙ ap (λ (k : ℕ). drop k (node_words n)) later)
+      ∙ ap (drop 11) at_record
 
-  pub record-back : recordOf (nodeWords n) i ≡ recordAt n.domains i
-  record-back =
-      ap (λ (l : List ℕ). recordBy (take 11 l) (part_of (stateAt i) 11 (nodeWords n))) at-record
-      ∙ ap (λ (l : List ℕ). recordBy (settingsWords d.settings d.number) (take 11 l)) at-state
-      ∙ record-says d (f.records i lt)
+  pub record_back : record_of (node_words n) i ≡ record_at n.domains i
+  record_back =
+      ap (λ (l : List ℕ). record_by (take 11 l) (part_of (state_at i) 11 (node_words n))) at_record
+      ∙ ap (λ (l : List ℕ). record_by (settings_words d.settings d.number) (take 11 l)) at_state
+      ∙ record_says d (f.records i lt)
 
 -- ---- the node
 
 module _ {A : Type 0} where
-  by-list :
+  by_list :
       (k : ℕ) (f : ℕ → A) (a : ℕ) (l : List A) (other : A) → length l ≡ k →
-      ((i at : ℕ) → i < k → a + i ≡ at → f at ≡ get_or l i other) → listBy k f a ≡ l
-  by-list zero f a [] other e h = refl
-  by-list zero f a (x ∷ xs) other e h = absurd (omega arith)
-  by-list (suc k) f a [] other e h = absurd (omega arith)
-  by-list (suc k) f a (x ∷ xs) other e h =
-      ap (λ (y : A). y ∷ listBy k f (suc a)) (h 0 a (omega arith) (omega arith))
+      ((i at : ℕ) → i < k → a + i ≡ at → f at ≡ get_or l i other) → list_by k f a ≡ l
+  by_list zero f a [] other e h = refl
+  by_list zero f a (x ∷ xs) other e h = absurd (omega arith)
+  by_list (suc k) f a [] other e h = absurd (omega arith)
+  by_list (suc k) f a (x ∷ xs) other e h =
+      ap (λ (y : A). y ∷ list_by k f (suc a)) (h 0 a (omega arith) (omega arith))
       ∙ ap (λ (l : List A). x ∷ l)
-      (by-list k f (suc a) xs other (omega arith) (λ i at lt q. h (suc i) at (omega arith) (omega arith)))
+      (by_list k f (suc a) xs other (omega arith) (λ i at lt q. h (suc i) at (omega arith) (omega arith)))
 
 abbrev node_by : List Domain → VirtualLocalTime → (syncs round : ℕ) → Node
 node_by l kept syncs round =
     record { domains = l; kept = kept; syncs_per_cycle = syncs; round = round }
 
-pub syncs-back : (n : Node) → NodeFits n → syncsOf (nodeWords n) ≡ n.syncs_per_cycle
-syncs-back n f = (unpacked 0 _ _ 0 0 (omega arith) f.syncs f.round (omega arith) (omega arith)).four
+pub syncs_back : (n : Node) → NodeFits n → syncs_of (node_words n) ≡ n.syncs_per_cycle
+syncs_back n f = (unpacked 0 _ _ 0 0 (omega arith) f.syncs f.round (omega arith) (omega arith)).four
 
-pub round-back : (n : Node) → NodeFits n → roundOf (nodeWords n) ≡ n.round
-round-back n f = (unpacked 0 _ _ 0 0 (omega arith) f.syncs f.round (omega arith) (omega arith)).five
+pub round_back : (n : Node) → NodeFits n → round_of (node_words n) ≡ n.round
+round_back n f = (unpacked 0 _ _ 0 0 (omega arith) f.syncs f.round (omega arith) (omega arith)).five
 
-records-back : (n : Node) → NodeFits n → listBy places (recordOf (nodeWords n)) 0 ≡ n.domains
-records-back n f =
-    by-list places (recordOf (nodeWords n)) 0 n.domains _ f.sixteen
+records_back : (n : Node) → NodeFits n → list_by places (record_of (node_words n)) 0 ≡ n.domains
+records_back n f =
+    by_list places (record_of (node_words n)) 0 n.domains _ f.sixteen
     (λ i at lt q.
     let same : at ≡ i = omega arith in
-    ap (recordOf (nodeWords n)) same ∙ record-back n f i lt)
+    ap (record_of (node_words n)) same ∙ record_back n f i lt)
 
-pub node-back : (n : Node) → NodeFits n → node_of (nodeWords n) ≡ n
-node-back n f =
-    ap (λ (l : List Domain). node_by l n.kept (syncsOf (nodeWords n)) (roundOf (nodeWords n))) (records-back n f)
-    ∙ ap (λ (k : ℕ). node_by n.domains n.kept k (roundOf (nodeWords n))) (syncs-back n f)
-    ∙ ap (node_by n.domains n.kept n.syncs_per_cycle) (round-back n f)
+pub node_back : (n : Node) → NodeFits n → node_of (node_words n) ≡ n
+node_back n f =
+    ap (λ (l : List Domain). node_by l n.kept (syncs_of (node_words n)) (round_of (node_words n))) (records_back n f)
+    ∙ ap (λ (k : ℕ). node_by n.domains n.kept k (round_of (node_words n))) (syncs_back n f)
+    ∙ ap (node_by n.domains n.kept n.syncs_per_cycle) (round_back n f)
 
 -- ---- any words
 
-record-of-fits : (words : List ℕ) (i : ℕ) → RecordFits (recordOf words i)
-record-of-fits words i =
-    let given = part_of (settingsAt i) 11 words in
+record_of_fits : (words : List ℕ) (i : ℕ) → RecordFits (record_of words i)
+record_of_fits words i =
+    let given = part_of (settings_at i) 11 words in
     record {
-      state = words-fit (settingsOf given) (number_of given) (part_of (stateAt i) 11 words);
-      settings = settings-fit given;
+      state = words_fit (settings_of given) (number_of given) (part_of (state_at i) 11 words);
+      settings = settings_fit given;
       number = omega arith;
     }
 
-pub words-node-fits : (words : List ℕ) → NodeFits (node_of words)
-words-node-fits words =
+pub words_node_fits : (words : List ℕ) → NodeFits (node_of words)
+words_node_fits words =
     record {
       sixteen = refl;
       records =
           λ i lt.
-          subst RecordFits (sym (by-at places (recordOf words) 0 i i _ lt (omega arith))) (record-of-fits words i);
+          subst RecordFits (sym (by_at places (record_of words) 0 i i _ lt (omega arith))) (record_of_fits words i);
       syncs = omega arith;
       round = omega arith;
     }
 
 -- ---- a fresh node: the settings of an absent domain and a fresh state are what no words at all say
 
-held-as-fits : (r : Role) (s : DomainSettings) → SettingsFit s → SettingsFit (heldAs r s)
-held-as-fits Absent s f = settings-fit []
-held-as-fits Slave s f =
+held_as_fits : (r : Role) (s : DomainSettings) → SettingsFit s → SettingsFit (held_as r s)
+held_as_fits Absent s f = settings_fit []
+held_as_fits Slave s f =
     record {
       confirmation = omega arith;
       jump = f.jump;
@@ -181,7 +181,7 @@ held-as-fits Slave s f =
       sync = f.sync;
       fup = f.fup;
     }
-held-as-fits Master s f =
+held_as_fits Master s f =
     record {
       confirmation = f.confirmation;
       jump = omega arith;
@@ -193,48 +193,48 @@ held-as-fits Master s f =
     }
 
 pub held_fits : (s : DomainSettings) → SettingsFit s → SettingsFit (held_of s)
-held_fits s f = held-as-fits s.role s f
+held_fits s f = held_as_fits s.role s f
 
-fresh-record-fits : (number : ℕ) (s : DomainSettings) → number < 256 → SettingsFit s → RecordFits (fresh_of number s)
-fresh-record-fits number s h f =
-    record { state = words-fit (held_of s) number []; settings = held_fits s f; number = h }
+fresh_record_fits : (number : ℕ) (s : DomainSettings) → number < 256 → SettingsFit s → RecordFits (fresh_of number s)
+fresh_record_fits number s h f =
+    record { state = words_fit (held_of s) number []; settings = held_fits s f; number = h }
 
-length-fresh : (number : ℕ) (l : List DomainSettings) → length (recordsOf number l) ≡ length l
-length-fresh number [] = refl
-length-fresh number (s ∷ rest) = ap suc (length-fresh (number + 1) rest)
+length_fresh : (number : ℕ) (l : List DomainSettings) → length (records_of number l) ≡ length l
+length_fresh number [] = refl
+length_fresh number (s ∷ rest) = ap suc (length_fresh (number + 1) rest)
 
-fresh-records-fit :
+fresh_records_fit :
     (number : ℕ) (l : List DomainSettings) (other : DomainSettings) (i : ℕ) → i < length l → number + i < 256 →
-    SettingsFit (get_or l i other) → RecordFits (recordAt (recordsOf number l) i)
-fresh-records-fit number [] other i h few f = absurd (omega arith)
-fresh-records-fit number (s ∷ rest) other zero h few f = fresh-record-fits number s (omega arith) f
-fresh-records-fit number (s ∷ rest) other (suc i) h few f =
-    fresh-records-fit (number + 1) rest other i (omega arith) (omega arith) f
+    SettingsFit (get_or l i other) → RecordFits (record_at (records_of number l) i)
+fresh_records_fit number [] other i h few f = absurd (omega arith)
+fresh_records_fit number (s ∷ rest) other zero h few f = fresh_record_fits number s (omega arith) f
+fresh_records_fit number (s ∷ rest) other (suc i) h few f =
+    fresh_records_fit (number + 1) rest other i (omega arith) (omega arith) f
 
 abbrev pub AllFit : List DomainSettings → Type 0
-AllFit ds = (i : ℕ) → i < places → SettingsFit (get_or ds i absentHeld)
+AllFit ds = (i : ℕ) → i < places → SettingsFit (get_or ds i absent_held)
 
-pub fresh-fits :
-    (s : ℕ) (ds : List DomainSettings) → s < 256 → length ds ≡ places → AllFit ds → NodeFits (freshNode s ds)
-fresh-fits s ds small sixteen fit =
+pub fresh_fits :
+    (s : ℕ) (ds : List DomainSettings) → s < 256 → length ds ≡ places → AllFit ds → NodeFits (fresh_node s ds)
+fresh_fits s ds small sixteen fit =
     record {
-      sixteen = length-fresh 0 ds ∙ sixteen;
-      records = λ i lt. fresh-records-fit 0 ds absentHeld i (omega arith) (omega arith) (fit i lt);
+      sixteen = length_fresh 0 ds ∙ sixteen;
+      records = λ i lt. fresh_records_fit 0 ds absent_held i (omega arith) (omega arith) (fit i lt);
       syncs = small;
       round = omega arith;
     }
 
-absent-fit : AllFit (replicate places absentHeld)
-absent-fit i lt = subst SettingsFit (sym (get_or-replicate places i absentHeld absentHeld lt)) (settings-fit [])
+absent_fit : AllFit (replicate places absent_held)
+absent_fit i lt = subst SettingsFit (sym (get_or-replicate places i absent_held absent_held lt)) (settings_fit [])
 
-new-as-fits :
+new_as_fits :
     (v : Verdict) (s : NodeSettings) → s.syncs_per_cycle < 256 → length s.domains ≡ places →
-    AllFit s.domains → NodeFits (newAs v s).node
-new-as-fits Good s small sixteen fit = fresh-fits s.syncs_per_cycle s.domains small sixteen fit
-new-as-fits (Refused refusal) s small sixteen fit =
-    fresh-fits 1 (replicate places absentHeld) (omega arith) refl absent-fit
+    AllFit s.domains → NodeFits (new_as v s).node
+new_as_fits Good s small sixteen fit = fresh_fits s.syncs_per_cycle s.domains small sixteen fit
+new_as_fits (Refused refusal) s small sixteen fit =
+    fresh_fits 1 (replicate places absent_held) (omega arith) refl absent_fit
 
-pub new-fits :
+pub new_fits :
     (s : NodeSettings) → s.syncs_per_cycle < 256 → length s.domains ≡ places → AllFit s.domains →
-    NodeFits (newOf s).node
-new-fits s small sixteen fit = new-as-fits (judgedOf s) s small sixteen fit
+    NodeFits (new_of s).node
+new_fits s small sixteen fit = new_as_fits (judged_of s) s small sixteen fit

@@ -17,47 +17,47 @@ use lib.ListN.{length}
 use borrow.Author.Tests.{eqb-false, ne_eqb}
 use Rattle.promise.proofs.Tests.{neither}
 use Rattle.clock.specs.declared.reading.VirtualLocalTime.{VirtualLocalTime}
-use Rattle.frame_read.specs.Read.{namedDomain}
+use Rattle.frame_read.specs.Read.{named_domain}
 use Rattle.frame_laws.specs.RoundTrip.{AreBytes}
 use Rattle.refusal.specs.Numbers.{StateStays}
 use Rattle.settings.specs.Node.{places}
 use Rattle.domain.specs.declared.Domain.{Domain}
-use Rattle.domain.specs.Records.{recordAt}
-use Rattle.slave_answer.specs.Answer.{frameNumber}
-use Rattle.master_set.specs.Set.{setNumber}
-use Rattle.master_confirm.specs.Confirm.{confirmNumber}
+use Rattle.domain.specs.Records.{record_at}
+use Rattle.slave_answer.specs.Answer.{frame_number}
+use Rattle.master_set.specs.Set.{set_number}
+use Rattle.master_confirm.specs.Confirm.{confirm_number}
 use Rattle.call_frame.specs.declared.FrameCall.{FrameCall}
-use Rattle.call_frame.specs.FrameCall.{frameCallOf}
-use Rattle.call_read.specs.ReadCall.{readCallOf}
+use Rattle.call_frame.specs.FrameCall.{frame_call_of}
+use Rattle.call_read.specs.ReadCall.{read_call_of}
 use Rattle.call_set.specs.declared.SetCall.{SetCall}
-use Rattle.call_set.specs.SetCall.{setCallOf}
+use Rattle.call_set.specs.SetCall.{set_call_of}
 use Rattle.call_confirm.specs.declared.ConfirmCall.{ConfirmCall}
-use Rattle.call_confirm.specs.ConfirmCall.{confirmCallOf, confirmBytes}
-use Rattle.node.specs.Store.{storedIn}
-use Rattle.node.specs.Frame.{addressedBy, nodeFrameOf}
-use Rattle.node.specs.Read.{nodeReadOf}
-use Rattle.node.specs.Set.{nodeSetOf}
-use Rattle.node.specs.Confirm.{nodeConfirmOf, confirmedBytes}
-use Rattle.node_laws.proofs.Keeps.{refusal-keeps-frame-call, refusal-keeps-set-call, refusal-keeps-confirm-call}
-use Rattle.node_words.specs.Words.{nodeSize, keptOf, recordOf}
+use Rattle.call_confirm.specs.ConfirmCall.{confirm_call_of, confirm_bytes}
+use Rattle.node.specs.Store.{stored_in}
+use Rattle.node.specs.Frame.{addressed_by, node_frame_of}
+use Rattle.node.specs.Read.{node_read_of}
+use Rattle.node.specs.Set.{node_set_of}
+use Rattle.node.specs.Confirm.{node_confirm_of, confirmed_bytes}
+use Rattle.node_laws.proofs.Keeps.{refusal_keeps_frame_call, refusal_keeps_set_call, refusal_keeps_confirm_call}
+use Rattle.node_words.specs.Words.{node_size, kept_of, record_of}
 use Rattle.node_words.specs.Node.{node_of}
-use Rattle.words_frame.specs.Frame.{calledIn, isStored, frameWords}
-use Rattle.words_call.specs.Calls.{read_by, setBy, setWords, confirmBy, confirmWords}
-use Rattle.words_laws.proofs.Fits.{state-fits, given-fits, set_after, confirm-after}
-use Rattle.words_laws.proofs.FrameFits.{frame-after}
+use Rattle.words_frame.specs.Frame.{called_in, is_stored, frame_words}
+use Rattle.words_call.specs.Calls.{read_by, set_by, set_words, confirm_by, confirm_words}
+use Rattle.words_laws.proofs.Fits.{state_fits, given_fits, set_after, confirm_after}
+use Rattle.words_laws.proofs.FrameFits.{frame_after}
 use Rattle.words_laws.proofs.Stored.{
-  looked-up,
-  put-by-frame,
-  put-by-set,
-  put-sent,
-  stored-node,
-  stored-size,
+  looked_up,
+  put_by_frame,
+  put_by_set,
+  put_sent,
+  stored_node,
+  stored_size,
 }
 
 -- ---- a frame
 
-not-stored : (number : ℕ) → isStored number ≡ false → StateStays number
-not-stored n e =
+not_stored : (number : ℕ) → is_stored number ≡ false → StateStays number
+not_stored n e =
     let most = neither (eqb n 0 || eqb n 6) (eqb n 15) e in
     let two = neither (eqb n 0) (eqb n 6) most.0 in
     (eqb-false n 0 two.0, eqb-false n 6 two.1, eqb-false n 15 most.1)
@@ -67,130 +67,130 @@ module _ (words : List ℕ) (t : ℕ) (bytes : List ℕ) where
   reading = record { 0 = t }
 
   abbrev place : ℕ
-  place = addressedBy bytes
+  place = addressed_by bytes
 
   abbrev call : FrameCall
-  call = calledIn words t bytes
+  call = called_in words t bytes
 
   below : place < places
-  below = mod-lt (namedDomain bytes) (omega arith)
+  below = mod-lt (named_domain bytes) (omega arith)
 
-  node_call : frameCallOf (recordAt (node_of words).domains place) (keptOf words) reading bytes ≡ call
-  node_call = ap (λ (d : Domain). frameCallOf d (keptOf words) reading bytes) (looked-up words place below)
+  node_call : frame_call_of (record_at (node_of words).domains place) (kept_of words) reading bytes ≡ call
+  node_call = ap (λ (d : Domain). frame_call_of d (kept_of words) reading bytes) (looked_up words place below)
 
-  pub frame-answer : call.answer ≡ (nodeFrameOf (node_of words) reading bytes).answer
-  frame-answer = sym (ap (λ (c : FrameCall). c.answer) node_call)
+  pub frame_answer : call.answer ≡ (node_frame_of (node_of words) reading bytes).answer
+  frame_answer = sym (ap (λ (c : FrameCall). c.answer) node_call)
 
-  pub frame-node :
-      length words ≡ nodeSize → AreBytes bytes →
-      node_of (frameWords words t bytes) ≡ (nodeFrameOf (node_of words) reading bytes).node
-  frame-node size are =
-      let d = recordOf words place in
-      stored-node put-by-frame words size place below (isStored (frameNumber call.answer)) call.domain
+  pub frame_node :
+      length words ≡ node_size → AreBytes bytes →
+      node_of (frame_words words t bytes) ≡ (node_frame_of (node_of words) reading bytes).node
+  frame_node size are =
+      let d = record_of words place in
+      stored_node put_by_frame words size place below (is_stored (frame_number call.answer)) call.domain
       call.kept
-      (frame-after d (keptOf words) reading bytes (state-fits words place) (given-fits words place) are)
-      (λ told. refusal-keeps-frame-call d (keptOf words) reading bytes (not-stored _ told))
-      ∙ sym (ap (λ (c : FrameCall). storedIn (node_of words) place c.domain c.kept) node_call)
+      (frame_after d (kept_of words) reading bytes (state_fits words place) (given_fits words place) are)
+      (λ told. refusal_keeps_frame_call d (kept_of words) reading bytes (not_stored _ told))
+      ∙ sym (ap (λ (c : FrameCall). stored_in (node_of words) place c.domain c.kept) node_call)
 
-  pub frame-size : length words ≡ nodeSize → length (frameWords words t bytes) ≡ nodeSize
-  frame-size size =
-      stored-size put-by-frame words size place below (isStored (frameNumber call.answer)) call.domain
+  pub frame_size : length words ≡ node_size → length (frame_words words t bytes) ≡ node_size
+  frame_size size =
+      stored_size put_by_frame words size place below (is_stored (frame_number call.answer)) call.domain
       call.kept
 
-  pub frame_refused : StateStays (frameNumber call.answer) → frameWords words t bytes ≡ words
+  pub frame_refused : StateStays (frame_number call.answer) → frame_words words t bytes ≡ words
   frame_refused stays =
-      let n = frameNumber call.answer in
+      let n = frame_number call.answer in
       rw (ne_eqb n 0 stays.0, ne_eqb n 6 stays.1, ne_eqb n 15 stays.2)
 
 -- ---- calls that name a domain
 
 module _ (words : List ℕ) (domain t : ℕ) where
-  abbrev at-time : VirtualLocalTime
-  at-time = record { 0 = t }
+  abbrev at_time : VirtualLocalTime
+  at_time = record { 0 = t }
 
   abbrev named : ℕ
   named = domain % places
 
-  named-below : named < places
-  named-below = mod-lt domain (omega arith)
+  named_below : named < places
+  named_below = mod-lt domain (omega arith)
 
-  same-record : recordAt (node_of words).domains named ≡ recordOf words named
-  same-record = looked-up words named named-below
+  same_record : record_at (node_of words).domains named ≡ record_of words named
+  same_record = looked_up words named named_below
 
-  pub read_answer : read_by words domain t ≡ nodeReadOf (node_of words) domain at-time
-  read_answer = sym (ap (λ (d : Domain). readCallOf d (keptOf words) domain at-time) same-record)
+  pub read_answer : read_by words domain t ≡ node_read_of (node_of words) domain at_time
+  read_answer = sym (ap (λ (d : Domain). read_call_of d (kept_of words) domain at_time) same_record)
 
   -- ---- a set
   module _ (s ns : ℕ) where
     abbrev set-call : SetCall
-    set-call = setBy words domain t s ns
+    set-call = set_by words domain t s ns
 
-    node-set : setCallOf (recordAt (node_of words).domains named) (keptOf words) domain at-time s ns ≡ set-call
-    node-set = ap (λ (d : Domain). setCallOf d (keptOf words) domain at-time s ns) same-record
+    node-set : set_call_of (record_at (node_of words).domains named) (kept_of words) domain at_time s ns ≡ set-call
+    node-set = ap (λ (d : Domain). set_call_of d (kept_of words) domain at_time s ns) same_record
 
-    pub set-answer : set-call.answer ≡ (nodeSetOf (node_of words) domain at-time s ns).answer
+    pub set-answer : set-call.answer ≡ (node_set_of (node_of words) domain at_time s ns).answer
     set-answer = sym (ap (λ (c : SetCall). c.answer) node-set)
 
     pub set-node :
-        length words ≡ nodeSize →
-        node_of (setWords words domain set-call) ≡ (nodeSetOf (node_of words) domain at-time s ns).node
+        length words ≡ node_size →
+        node_of (set_words words domain set-call) ≡ (node_set_of (node_of words) domain at_time s ns).node
     set-node size =
-        let d = recordOf words named in
-        stored-node put-by-set words size named named-below (eqb (setNumber set-call.answer) 0) set-call.domain
-        set-call.kept (set_after d (keptOf words) domain at-time s ns (state-fits words named))
-        (λ told. refusal-keeps-set-call d (keptOf words) domain at-time s ns (eqb-false _ 0 told))
-        ∙ sym (ap (λ (c : SetCall). storedIn (node_of words) named c.domain c.kept) node-set)
+        let d = record_of words named in
+        stored_node put_by_set words size named named_below (eqb (set_number set-call.answer) 0) set-call.domain
+        set-call.kept (set_after d (kept_of words) domain at_time s ns (state_fits words named))
+        (λ told. refusal_keeps_set_call d (kept_of words) domain at_time s ns (eqb-false _ 0 told))
+        ∙ sym (ap (λ (c : SetCall). stored_in (node_of words) named c.domain c.kept) node-set)
 
-    pub set-size : length words ≡ nodeSize → length (setWords words domain set-call) ≡ nodeSize
+    pub set-size : length words ≡ node_size → length (set_words words domain set-call) ≡ node_size
     set-size size =
-        stored-size put-by-set words size named named-below (eqb (setNumber set-call.answer) 0)
+        stored_size put_by_set words size named named_below (eqb (set_number set-call.answer) 0)
         set-call.domain set-call.kept
 
-    pub set-refused : (setNumber set-call.answer ≡ 0 → ⊥) → setWords words domain set-call ≡ words
-    set-refused n = rw (ne_eqb (setNumber set-call.answer) 0 n)
+    pub set-refused : (set_number set-call.answer ≡ 0 → ⊥) → set_words words domain set-call ≡ words
+    set-refused n = rw (ne_eqb (set_number set-call.answer) 0 n)
 
   -- ---- a confirmation
   module _ (counter : ℕ) (out : List ℕ) where
     abbrev confirm-call : ConfirmCall
-    confirm-call = confirmBy words domain t counter (length out)
+    confirm-call = confirm_by words domain t counter (length out)
 
     node-confirm :
-        confirmCallOf (recordAt (node_of words).domains named) (keptOf words) domain at-time counter (length out)
+        confirm_call_of (record_at (node_of words).domains named) (kept_of words) domain at_time counter (length out)
         ≡ confirm-call
-    node-confirm = ap (λ (d : Domain). confirmCallOf d (keptOf words) domain at-time counter (length out)) same-record
+    node-confirm = ap (λ (d : Domain). confirm_call_of d (kept_of words) domain at_time counter (length out)) same_record
 
     pub confirm-answer :
-        confirm-call.answer ≡ (nodeConfirmOf (node_of words) domain at-time counter (length out)).answer
+        confirm-call.answer ≡ (node_confirm_of (node_of words) domain at_time counter (length out)).answer
     confirm-answer = sym (ap (λ (c : ConfirmCall). c.answer) node-confirm)
 
     pub confirm-bytes :
-        confirmBytes confirm-call.answer (recordOf words named).settings.ids out
-        ≡ confirmedBytes (nodeConfirmOf (node_of words) domain at-time counter (length out)).answer (node_of words)
+        confirm_bytes confirm-call.answer (record_of words named).settings.ids out
+        ≡ confirmed_bytes (node_confirm_of (node_of words) domain at_time counter (length out)).answer (node_of words)
         domain out
     confirm-bytes =
         sym
-        (ap (λ (d : Domain). confirmBytes (confirmCallOf d (keptOf words) domain at-time counter (length out)).answer
-        d.settings.ids out) same-record)
+        (ap (λ (d : Domain). confirm_bytes (confirm_call_of d (kept_of words) domain at_time counter (length out)).answer
+        d.settings.ids out) same_record)
 
     pub confirm-node :
-        length words ≡ nodeSize →
-        node_of (confirmWords words domain confirm-call)
-        ≡ (nodeConfirmOf (node_of words) domain at-time counter (length out)).node
+        length words ≡ node_size →
+        node_of (confirm_words words domain confirm-call)
+        ≡ (node_confirm_of (node_of words) domain at_time counter (length out)).node
     confirm-node size =
-        let d = recordOf words named in
-        stored-node put-sent words size named named-below (eqb (confirmNumber confirm-call.answer) 0)
+        let d = record_of words named in
+        stored_node put_sent words size named named_below (eqb (confirm_number confirm-call.answer) 0)
         confirm-call.domain confirm-call.kept
-        (confirm-after d (keptOf words) domain at-time counter (length out) (state-fits words named))
+        (confirm_after d (kept_of words) domain at_time counter (length out) (state_fits words named))
         (λ told.
-        let k = refusal-keeps-confirm-call d (keptOf words) domain at-time counter out (eqb-false _ 0 told) in
+        let k = refusal_keeps_confirm_call d (kept_of words) domain at_time counter out (eqb-false _ 0 told) in
         (k.0, k.1))
-        ∙ sym (ap (λ (c : ConfirmCall). storedIn (node_of words) named c.domain c.kept) node-confirm)
+        ∙ sym (ap (λ (c : ConfirmCall). stored_in (node_of words) named c.domain c.kept) node-confirm)
 
-    pub confirm-size : length words ≡ nodeSize → length (confirmWords words domain confirm-call) ≡ nodeSize
+    pub confirm-size : length words ≡ node_size → length (confirm_words words domain confirm-call) ≡ node_size
     confirm-size size =
-        stored-size put-sent words size named named-below (eqb (confirmNumber confirm-call.answer) 0)
+        stored_size put_sent words size named named_below (eqb (confirm_number confirm-call.answer) 0)
         confirm-call.domain confirm-call.kept
 
     pub confirm-refused :
-        (confirmNumber confirm-call.answer ≡ 0 → ⊥) → confirmWords words domain confirm-call ≡ words
-    confirm-refused n = rw (ne_eqb (confirmNumber confirm-call.answer) 0 n)
+        (confirm_number confirm-call.answer ≡ 0 → ⊥) → confirm_words words domain confirm-call ≡ words
+    confirm-refused n = rw (ne_eqb (confirm_number confirm-call.answer) 0 n)

@@ -11,38 +11,38 @@ use mathlib.Core.List.{List}
 use native.Mathlib.Omega.{arith}
 use lib.Dec.{leb}
 use borrow.Author.Tests.{leb-true}
-use Rattle.promise.proofs.Tests.{either-told}
+use Rattle.promise.proofs.Tests.{either_told}
 use Rattle.clock.specs.declared.reading.VirtualLocalTime.{VirtualLocalTime}
-use Rattle.clock.specs.Time.{isNanoseconds}
+use Rattle.clock.specs.Time.{is_nanoseconds}
 use Rattle.domain.specs.declared.Domain.{Domain}
 use Rattle.domain.specs.declared.Sending.{Sending}
 use Rattle.domain.specs.declared.Sending.TheVariants.{Open, Confirmed}
-use Rattle.domain.specs.Fields.{withSending, with_next}
+use Rattle.domain.specs.Fields.{with_sending, with_next}
 use Rattle.master_rules.specs.declared.due.Due.{Due}
-use Rattle.master_rules.proofs.Laws.{by-due}
+use Rattle.master_rules.proofs.Laws.{by_due}
 use Rattle.master_follow.specs.declared.Follow.{Follow}
-use Rattle.master_follow.specs.declared.Follow.TheVariants.{With, Refused as not-followed}
-use Rattle.master_follow.specs.Follow.{followOf}
+use Rattle.master_follow.specs.declared.Follow.TheVariants.{With, Refused as not_followed}
+use Rattle.master_follow.specs.Follow.{follow_of}
 use Rattle.master_set.specs.declared.SetStep.{SetStep}
-use Rattle.master_confirm.specs.Confirm.{confirmAs}
-use Rattle.master_send.specs.Send.{sendAs, sendOf}
+use Rattle.master_confirm.specs.Confirm.{confirm_as}
+use Rattle.master_send.specs.Send.{send_as, send_of}
 use Rattle.admission.specs.declared.Admission.{Admission}
 use Rattle.admission.specs.declared.Admission.TheVariants.{Admitted as admitted, Refused as refused}
 use Rattle.admission.specs.declared.Needed.TheVariants.{Master}
-use Rattle.admission.specs.Admission.{admittedOf}
-use Rattle.call_set.specs.SetCall.{setCallAs, setCallOf}
-use Rattle.call_confirm.specs.ConfirmCall.{confirmCallAs, confirmCallOf}
+use Rattle.admission.specs.Admission.{admitted_of}
+use Rattle.call_set.specs.SetCall.{set_call_as, set_call_of}
+use Rattle.call_confirm.specs.ConfirmCall.{confirm_call_as, confirm_call_of}
 use Rattle.record_words.specs.Fits.{SendingFits, SettingsFit, StateFits}
-use Rattle.record_words.proofs.Back.{BesideBase, BesideSent, words-fit, settings-fit}
-use Rattle.node_words.specs.Words.{settingsAt, stateAt, part_of, recordOf}
+use Rattle.record_words.proofs.Back.{BesideBase, BesideSent, words_fit, settings_fit}
+use Rattle.node_words.specs.Words.{settings_at, state_at, part_of, record_of}
 
 -- ---- any words say a record that fits
 
-pub state-fits : (words : List ℕ) (at : ℕ) → StateFits (recordOf words at)
-state-fits words at = words-fit _ _ (part_of (stateAt at) 11 words)
+pub state_fits : (words : List ℕ) (at : ℕ) → StateFits (record_of words at)
+state_fits words at = words_fit _ _ (part_of (state_at at) 11 words)
 
-pub given-fits : (words : List ℕ) (at : ℕ) → SettingsFit (recordOf words at).settings
-given-fits words at = settings-fit (part_of (settingsAt at) 11 words)
+pub given_fits : (words : List ℕ) (at : ℕ) → SettingsFit (record_of words at).settings
+given_fits words at = settings_fit (part_of (settings_at at) 11 words)
 
 -- ---- a record after a call that may change all but what `Beside` says
 
@@ -68,11 +68,11 @@ module _ (d : Domain) (g : StateFits d) where
         fits = g;
       }
 
-  set-call-after :
-      (a : Admission) (kept t : VirtualLocalTime) (s n : ℕ) → After BesideBase d (setCallAs a d kept t s n).domain
-  set-call-after (refused refusal) kept t s n = base_stays
-  set-call-after admitted kept t s n =
-      either-told (λ (r : SetStep). After BesideBase d r.domain) (isNanoseconds n)
+  set_call_after :
+      (a : Admission) (kept t : VirtualLocalTime) (s n : ℕ) → After BesideBase d (set_call_as a d kept t s n).domain
+  set_call_after (refused refusal) kept t s n = base_stays
+  set_call_after admitted kept t s n =
+      either_told (λ (r : SetStep). After BesideBase d r.domain) (is_nanoseconds n)
       (λ e.
       record {
         settings = refl;
@@ -94,17 +94,17 @@ module _ (d : Domain) (g : StateFits d) where
 
 pub set_after :
     (d : Domain) (kept : VirtualLocalTime) (asked : ℕ) (t : VirtualLocalTime) (s n : ℕ) → StateFits d →
-    After BesideBase d (setCallOf d kept asked t s n).domain
+    After BesideBase d (set_call_of d kept asked t s n).domain
 set_after d kept asked t s n g =
-    set-call-after d g (admittedOf kept t d.number d.settings.role asked Master) kept t s n
+    set_call_after d g (admitted_of kept t d.number d.settings.role asked Master) kept t s n
 
 -- ---- a confirmation, and a turn
 
 module _ (d : Domain) (g : StateFits d) where
-  with-sent :
+  with_sent :
       (sending : Sending) (next : ℕ) → SendingFits sending → next < 256 →
-      After BesideSent d (with_next (withSending d sending) next)
-  with-sent sending next s n =
+      After BesideSent d (with_next (with_sending d sending) next)
+  with_sent sending next s n =
       record {
         settings = refl;
         number = refl;
@@ -131,29 +131,29 @@ module _ (d : Domain) (g : StateFits d) where
             };
       }
 
-  sent-stays : After BesideSent d d
-  sent-stays = with-sent d.sending d.next_counter g.sending g.next
+  sent_stays : After BesideSent d d
+  sent_stays = with_sent d.sending d.next_counter g.sending g.next
 
-  follow-after : (f : Follow) (counter : ℕ) → After BesideSent d (confirmAs f d counter).domain
-  follow-after (not-followed refusal) counter = sent-stays
-  follow-after (With ovs nanoseconds at) counter = with-sent (Confirmed at) d.next_counter tt g.next
+  follow_after : (f : Follow) (counter : ℕ) → After BesideSent d (confirm_as f d counter).domain
+  follow_after (not_followed refusal) counter = sent_stays
+  follow_after (With ovs nanoseconds at) counter = with_sent (Confirmed at) d.next_counter tt g.next
 
-  confirm-call-after :
+  confirm_call_after :
       (a : Admission) (kept t : VirtualLocalTime) (counter room : ℕ) →
-      After BesideSent d (confirmCallAs a d kept t counter room).domain
-  confirm-call-after (refused refusal) kept t counter room = sent-stays
-  confirm-call-after admitted kept t counter room =
-      follow-after (followOf d.settings.confirmation_time d.sending t counter (leb 8 room)) counter
+      After BesideSent d (confirm_call_as a d kept t counter room).domain
+  confirm_call_after (refused refusal) kept t counter room = sent_stays
+  confirm_call_after admitted kept t counter room =
+      follow_after (follow_of d.settings.confirmation_time d.sending t counter (leb 8 room)) counter
 
-pub confirm-after :
+pub confirm_after :
     (d : Domain) (kept : VirtualLocalTime) (asked : ℕ) (t : VirtualLocalTime) (counter room : ℕ) → StateFits d →
-    After BesideSent d (confirmCallOf d kept asked t counter room).domain
-confirm-after d kept asked t counter room g =
-    confirm-call-after d g (admittedOf kept t d.number d.settings.role asked Master) kept t counter room
+    After BesideSent d (confirm_call_of d kept asked t counter room).domain
+confirm_after d kept asked t counter room g =
+    confirm_call_after d g (admitted_of kept t d.number d.settings.role asked Master) kept t counter room
 
-pub send-after : (d : Domain) (t : VirtualLocalTime) → StateFits d → After BesideSent d (sendOf d t).domain
-send-after d t g =
-    by-due (λ (due : Due). After BesideSent d (sendAs due d t).domain) d.settings.role d.settings.period
-    d.base d.sending t (sent-stays d g)
+pub send_after : (d : Domain) (t : VirtualLocalTime) → StateFits d → After BesideSent d (send_of d t).domain
+send_after d t g =
+    by_due (λ (due : Due). After BesideSent d (send_as due d t).domain) d.settings.role d.settings.period
+    d.base d.sending t (sent_stays d g)
     (λ b told.
-    with-sent d g (Open _ _ _ t) _ (omega arith, omega arith, omega arith) (omega arith))
+    with_sent d g (Open _ _ _ t) _ (omega arith, omega arith, omega arith) (omega arith))

@@ -10,7 +10,7 @@ use lib.Dec.{eqb, ltb}
 use lib.IntN.{ℤ}
 use lib.ListN.{get_or, length}
 use borrow.Author.Tests.{ltb-true}
-use Rattle.promise.proofs.Tests.{either, either-told}
+use Rattle.promise.proofs.Tests.{either, either_told}
 use Rattle.clock.specs.declared.reading.VirtualLocalTime.{VirtualLocalTime}
 use Rattle.clock.specs.declared.base.TimeBase.{TimeBase}
 use Rattle.clock.specs.declared.base.Held.{Held}
@@ -28,13 +28,13 @@ use Rattle.frame.specs.declared.values.Frame.{Frame}
 use Rattle.frame.specs.declared.values.Frame.TheVariants.{Sync as sync, Fup as fup}
 use Rattle.frame.specs.declared.values.Sync.{Sync}
 use Rattle.frame.specs.declared.values.Fup.{Fup}
-use Rattle.frame.specs.Values.{domainIn}
+use Rattle.frame.specs.Values.{domain_in}
 use Rattle.frame_read.specs.declared.Read.{Read}
 use Rattle.frame_read.specs.declared.Read.TheVariants.{Values, LengthNot8, NoSuchType}
 use Rattle.frame_read.specs.Read.{values_of, read_of}
 use Rattle.frame_check.specs.Check.{is_taken}
 use Rattle.frame_laws.specs.RoundTrip.{AreBytes}
-use Rattle.frame_laws.proofs.Laws.{byte-below}
+use Rattle.frame_laws.proofs.Laws.{byte_below}
 use Rattle.settings.specs.declared.domain_settings.Role.{Role}
 use Rattle.domain.specs.declared.Domain.{Domain}
 use Rattle.domain.specs.declared.Pairing.{Pairing}
@@ -43,28 +43,28 @@ use Rattle.domain.specs.declared.LastSync.{LastSync}
 use Rattle.domain.specs.declared.LastSync.TheVariants.{Unknown, Seen}
 use Rattle.domain.specs.declared.Leap.{Leap}
 use Rattle.domain.specs.declared.Leap.TheVariants.{None, Future, Past}
-use Rattle.domain.specs.Fields.{withPairing, with_last}
+use Rattle.domain.specs.Fields.{with_pairing, with_last}
 use Rattle.slave_counter.specs.declared.CounterVerdict.{CounterVerdict}
 use Rattle.slave_counter.specs.declared.RowCheck.{RowCheck}
 use Rattle.slave_counter.specs.declared.RowCheck.TheVariants.{NotGood, Joins, Complete}
-use Rattle.slave_counter.specs.Row.{row_of, with_row, checkedOf}
-use Rattle.slave_counter.proofs.Laws.{Checked, not-joined, begins, alone, joins, completes, checked}
+use Rattle.slave_counter.specs.Row.{row_of, with_row, checked_of}
+use Rattle.slave_counter.proofs.Laws.{Checked, not_joined, begins, alone, joins, completes, checked}
 use Rattle.slave_pair.specs.declared.joining.Joined.{Joined}
-use Rattle.slave_pair.specs.Pair.{userIn}
-use Rattle.slave_pair.proofs.Laws.{by-joined}
+use Rattle.slave_pair.specs.Pair.{user_in}
+use Rattle.slave_pair.proofs.Laws.{by_joined}
 use Rattle.slave_answer.specs.declared.FrameStep.{FrameStep}
-use Rattle.slave_update.specs.Leap.{isFuture, isPast, calmer, leapAfter}
-use Rattle.slave_update.specs.Update.{movedBy, updateOf}
-use Rattle.slave_sync.specs.Sync.{verdictFor, syncAs}
-use Rattle.slave_fup.specs.Fup.{fupAs, fupOf}
+use Rattle.slave_update.specs.Leap.{is_future, is_past, calmer, leap_after}
+use Rattle.slave_update.specs.Update.{moved_by, update_of}
+use Rattle.slave_sync.specs.Sync.{verdict_for, sync_as}
+use Rattle.slave_fup.specs.Fup.{fup_as, fup_of}
 use Rattle.slave_frame.specs.Step.{kind_of}
 use Rattle.admission.specs.declared.Needed.TheVariants.{Slave}
 use Rattle.admission.specs.declared.frames.FrameAdmission.{FrameAdmission}
 use Rattle.admission.specs.declared.frames.FrameAdmission.TheVariants.{Admitted, Refused}
-use Rattle.admission.specs.Admission.{isFor}
-use Rattle.admission.specs.FrameAdmission.{readFor, frameAdmitted}
-use Rattle.admission.specs.Reading.{isGoodReading}
-use Rattle.call_frame.specs.FrameCall.{frameCallAs, frameCallOf}
+use Rattle.admission.specs.Admission.{is_for}
+use Rattle.admission.specs.FrameAdmission.{read_for, frame_admitted}
+use Rattle.admission.specs.Reading.{is_good_reading}
+use Rattle.call_frame.specs.FrameCall.{frame_call_as, frame_call_of}
 use Rattle.record_words.specs.Fits.{PairingFits, LastFits, LeapFits, SettingsFit, StateFits}
 use Rattle.words_laws.proofs.Fits.{BesideFrame, After}
 
@@ -72,39 +72,39 @@ use Rattle.words_laws.proofs.Fits.{BesideFrame, After}
 
 abbrev ValuesFit : Frame → Type 0
 ValuesFit (sync s) =
-    (s.seconds < 4294967296) × (s.counter < 256) × (s.user0 < 256) × (userIn s.protection < 256)
-ValuesFit (fup f) = userIn f.protection < 256
+    (s.seconds < 4294967296) × (s.counter < 256) × (s.user0 < 256) × (user_in s.protection < 256)
+ValuesFit (fup f) = user_in f.protection < 256
 
 abbrev ReadFits : Read → Type 0
 ReadFits LengthNot8 = Unit {0}
 ReadFits NoSuchType = Unit {0}
 ReadFits (Values values) = ValuesFit values
 
-values-fit : (k : FrameType) (bytes : List ℕ) → ((i : ℕ) → get_or bytes i 0 < 256) → ReadFits (values_of k bytes)
-values-fit PlainSync bytes h = (omega (arith, h 4, h 5, h 6, h 7), omega arith, h 3, h 1)
-values-fit SecuredSync bytes h = (omega (arith, h 4, h 5, h 6, h 7), omega arith, h 3, omega arith)
-values-fit PlainFup bytes h = h 1
-values-fit SecuredFup bytes h = omega arith
-values-fit no-type bytes h = tt
+values_fit : (k : FrameType) (bytes : List ℕ) → ((i : ℕ) → get_or bytes i 0 < 256) → ReadFits (values_of k bytes)
+values_fit PlainSync bytes h = (omega (arith, h 4, h 5, h 6, h 7), omega arith, h 3, h 1)
+values_fit SecuredSync bytes h = (omega (arith, h 4, h 5, h 6, h 7), omega arith, h 3, omega arith)
+values_fit PlainFup bytes h = h 1
+values_fit SecuredFup bytes h = omega arith
+values_fit no-type bytes h = tt
 
 read_fits : (bytes : List ℕ) → AreBytes bytes → ReadFits (read_of bytes)
 read_fits bytes are =
-    either ReadFits (eqb (length bytes) 8) (values-fit (type_of (get_or bytes 0 0)) bytes (λ i. byte-below bytes i are)) tt
+    either ReadFits (eqb (length bytes) 8) (values_fit (type_of (get_or bytes 0 0)) bytes (λ i. byte_below bytes i are)) tt
 
 abbrev AdmittedFits : FrameAdmission → Type 0
 AdmittedFits (Refused refusal) = Unit {0}
 AdmittedFits (Admitted values) = ValuesFit values
 
-read-for-fits : (r : Read) (own : ℕ) (role : Role) → ReadFits r → AdmittedFits (readFor r own role)
-read-for-fits LengthNot8 own role h = tt
-read-for-fits NoSuchType own role h = tt
-read-for-fits (Values values) own role h = either AdmittedFits (isFor own role (domainIn values) Slave) h tt
+read_for_fits : (r : Read) (own : ℕ) (role : Role) → ReadFits r → AdmittedFits (read_for r own role)
+read_for_fits LengthNot8 own role h = tt
+read_for_fits NoSuchType own role h = tt
+read_for_fits (Values values) own role h = either AdmittedFits (is_for own role (domain_in values) Slave) h tt
 
-admitted-fits :
+admitted_fits :
     (kept t : VirtualLocalTime) (own : ℕ) (role : Role) (bytes : List ℕ) → AreBytes bytes →
-    AdmittedFits (frameAdmitted kept t own role bytes)
-admitted-fits kept t own role bytes are =
-    either AdmittedFits (isGoodReading kept t) (read-for-fits (read_of bytes) own role (read_fits bytes are)) tt
+    AdmittedFits (frame_admitted kept t own role bytes)
+admitted_fits kept t own role bytes are =
+    either AdmittedFits (is_good_reading kept t) (read_for_fits (read_of bytes) own role (read_fits bytes are)) tt
 
 -- ---- the row, within H
 
@@ -113,42 +113,42 @@ CheckFits (NotGood row) = row < 256
 CheckFits (Joins row) = row < 256
 CheckFits (Complete row) = row < 256
 
-check-fits :
+check_fits :
     (h row : ℕ) (v : CounterVerdict) (k : RowCheck) → h < 256 → row < 256 → Checked h row v k → CheckFits k
-check-fits h row v k hh hr not-joined = either (λ (r : ℕ). r < 256) (ltb row h) (omega arith) hr
-check-fits h row v k hh hr (begins lt) = omega arith
-check-fits h row v k hh hr (alone le) = hh
-check-fits h row v k hh hr (joins lt) = omega arith
-check-fits h row v k hh hr (completes le) = hh
+check_fits h row v k hh hr not_joined = either (λ (r : ℕ). r < 256) (ltb row h) (omega arith) hr
+check_fits h row v k hh hr (begins lt) = omega arith
+check_fits h row v k hh hr (alone le) = hh
+check_fits h row v k hh hr (joins lt) = omega arith
+check_fits h row v k hh hr (completes le) = hh
 
 row_fits : (last : LastSync) → LastFits last → row_of last < 256
 row_fits Unknown f = omega arith
 row_fits (Seen counter row at) f = f.1
 
-with-row-fits : (last : LastSync) (row : ℕ) → LastFits last → row < 256 → LastFits (with_row last row)
-with-row-fits Unknown row f h = tt
-with-row-fits (Seen counter old at) row f h = (f.0, h)
+with_row_fits : (last : LastSync) (row : ℕ) → LastFits last → row < 256 → LastFits (with_row last row)
+with_row_fits Unknown row f h = tt
+with_row_fits (Seen counter old at) row f h = (f.0, h)
 
 -- ---- the run of a leap, below its count
 
-calmer-fits : (count : ℕ) (held : Leap) → count < 256 → LeapFits (calmer count held)
-calmer-fits count None h = tt
-calmer-fits count (Future run) h =
-    either-told LeapFits (ltb (run + 1) count) (λ e. omega (arith, ltb-true (run + 1) count e)) (λ e. tt)
-calmer-fits count (Past run) h =
-    either-told LeapFits (ltb (run + 1) count) (λ e. omega (arith, ltb-true (run + 1) count e)) (λ e. tt)
+calmer_fits : (count : ℕ) (held : Leap) → count < 256 → LeapFits (calmer count held)
+calmer_fits count None h = tt
+calmer_fits count (Future run) h =
+    either_told LeapFits (ltb (run + 1) count) (λ e. omega (arith, ltb-true (run + 1) count e)) (λ e. tt)
+calmer_fits count (Past run) h =
+    either_told LeapFits (ltb (run + 1) count) (λ e. omega (arith, ltb-true (run + 1) count e)) (λ e. tt)
 
-leap-fits :
-    (future past count : ℕ) (held : Leap) (d : ℤ) → count < 256 → LeapFits (leapAfter future past count held d)
-leap-fits future past count held d h =
+leap_fits :
+    (future past count : ℕ) (held : Leap) (d : ℤ) → count < 256 → LeapFits (leap_after future past count held d)
+leap_fits future past count held d h =
     let zero-run : 0 < 256 = omega arith in
-    either LeapFits (isFuture future d) zero-run (either LeapFits (isPast past d) zero-run (calmer-fits count held h))
+    either LeapFits (is_future future d) zero-run (either LeapFits (is_past past d) zero-run (calmer_fits count held h))
 
-update-fits :
+update_fits :
     (future past count : ℕ) (held : Leap) (old : Held) (new : TimeBase) → count < 256 →
-    LeapFits (updateOf future past count held old new).leap
-update-fits future past count held Unset new h = tt
-update-fits future past count held (Set old) new h = leap-fits future past count held (movedBy old new) h
+    LeapFits (update_of future past count held old new).leap
+update_fits future past count held Unset new h = tt
+update_fits future past count held (Set old) new h = leap_fits future past count held (moved_by old new) h
 
 -- ---- a frame
 
@@ -156,10 +156,10 @@ module _ (d : Domain) (g : StateFits d) (given : SettingsFit d.settings) where
   abbrev Steps : FrameStep → Type 0
   Steps s = After BesideFrame d s.domain
 
-  with-sync :
+  with_sync_lem :
       (pairing : Pairing) (last : LastSync) → PairingFits pairing → LastFits last →
-      After BesideFrame d (with_last (withPairing d pairing) last)
-  with-sync pairing last p l =
+      After BesideFrame d (with_last (with_pairing d pairing) last)
+  with_sync_lem pairing last p l =
       record {
         settings = refl;
         number = refl;
@@ -178,18 +178,18 @@ module _ (d : Domain) (g : StateFits d) (given : SettingsFit d.settings) where
       }
 
   stays : After BesideFrame d d
-  stays = with-sync d.pairing d.last g.pairing g.last
+  stays = with_sync_lem d.pairing d.last g.pairing g.last
 
-  sync-after :
-      (k : RowCheck) → CheckFits k → (t : VirtualLocalTime) (s : Sync) → ValuesFit (sync s) → Steps (syncAs k d t s)
-  sync-after (NotGood row) h t s v =
-      with-sync d.pairing (with_row d.last row) g.pairing (with-row-fits d.last row g.last h)
-  sync-after (Joins row) h t s v = with-sync d.pairing (Seen s.counter row t) g.pairing (v.1, h)
-  sync-after (Complete row) h t s v = with-sync (Open _) (Seen s.counter row t) v (v.1, h)
+  sync_after_lem :
+      (k : RowCheck) → CheckFits k → (t : VirtualLocalTime) (s : Sync) → ValuesFit (sync s) → Steps (sync_as k d t s)
+  sync_after_lem (NotGood row) h t s v =
+      with_sync_lem d.pairing (with_row d.last row) g.pairing (with_row_fits d.last row g.last h)
+  sync_after_lem (Joins row) h t s v = with_sync_lem d.pairing (Seen s.counter row t) g.pairing (v.1, h)
+  sync_after_lem (Complete row) h t s v = with_sync_lem (Open _) (Seen s.counter row t) v (v.1, h)
 
-  fup-after : (t : VirtualLocalTime) (f : Fup) → ValuesFit (fup f) → Steps (fupOf d t f)
-  fup-after t f v =
-      by-joined (λ (j : Joined). Steps (fupAs j d f)) d.settings.follow_up_time d.pairing t f stays stays stays
+  fup_after : (t : VirtualLocalTime) (f : Fup) → ValuesFit (fup f) → Steps (fup_of d t f)
+  fup_after t f v =
+      by_joined (λ (j : Joined). Steps (fup_as j d f)) d.settings.follow_up_time d.pairing t f stays stays stays
       (λ p told.
       let open-fits : PairingFits (Open p) = subst PairingFits told.held g.pairing in
       record {
@@ -201,7 +201,7 @@ module _ (d : Domain) (g : StateFits d) (given : SettingsFit d.settings) where
               base = omega arith;
               pairing = tt;
               last = g.last;
-              leap = update-fits _ _ _ d.leap d.base _ given.count;
+              leap = update_fits _ _ _ d.leap d.base _ given.count;
               sending = g.sending;
               user = (open-fits.2, open-fits.3, v);
               updates = omega arith;
@@ -209,24 +209,24 @@ module _ (d : Domain) (g : StateFits d) (given : SettingsFit d.settings) where
             };
       })
 
-  kind-after : (t : VirtualLocalTime) (values : Frame) → ValuesFit values → Steps (kind_of d t values)
-  kind-after t (sync s) v =
+  kind_after : (t : VirtualLocalTime) (values : Frame) → ValuesFit values → Steps (kind_of d t values)
+  kind_after t (sync s) v =
       let h = d.settings.hysteresis in
       let row = row_of d.last in
-      sync-after (checkedOf h row (verdictFor d t s))
-      (check-fits h row _ _ given.hysteresis (row_fits d.last g.last) (checked h row (verdictFor d t s))) t s v
-  kind-after t (fup f) v = fup-after t f v
+      sync_after_lem (checked_of h row (verdict_for d t s))
+      (check_fits h row _ _ given.hysteresis (row_fits d.last g.last) (checked h row (verdict_for d t s))) t s v
+  kind_after t (fup f) v = fup_after t f v
 
-  call-after :
+  call_after :
       (a : FrameAdmission) (kept t : VirtualLocalTime) (bytes : List ℕ) → AdmittedFits a →
-      After BesideFrame d (frameCallAs a d kept t bytes).domain
-  call-after (Refused refusal) kept t bytes h = stays
-  call-after (Admitted values) kept t bytes h =
-      either Steps (is_taken d.settings.mode d.settings.ids bytes) (kind-after t values h) stays
+      After BesideFrame d (frame_call_as a d kept t bytes).domain
+  call_after (Refused refusal) kept t bytes h = stays
+  call_after (Admitted values) kept t bytes h =
+      either Steps (is_taken d.settings.mode d.settings.ids bytes) (kind_after t values h) stays
 
-pub frame-after :
+pub frame_after :
     (d : Domain) (kept t : VirtualLocalTime) (bytes : List ℕ) → StateFits d → SettingsFit d.settings →
-    AreBytes bytes → After BesideFrame d (frameCallOf d kept t bytes).domain
-frame-after d kept t bytes g given are =
-    call-after d g given (frameAdmitted kept t d.number d.settings.role bytes) kept t bytes
-    (admitted-fits kept t d.number d.settings.role bytes are)
+    AreBytes bytes → After BesideFrame d (frame_call_of d kept t bytes).domain
+frame_after d kept t bytes g given are =
+    call_after d g given (frame_admitted kept t d.number d.settings.role bytes) kept t bytes
+    (admitted_fits kept t d.number d.settings.role bytes are)

@@ -22,8 +22,8 @@ use lib.Seq.{
   drop-drop,
   get_or-take,
 }
-use Rattle.node_words.specs.Words.{part_of, withPart}
-use Rattle.node_words.specs.Node.{listBy}
+use Rattle.node_words.specs.Words.{part_of, with_part}
+use Rattle.node_words.specs.Node.{list_by}
 
 -- ---- before
 
@@ -35,30 +35,30 @@ front from a k words more h le =
     ap (take k) (drop-append-le a (take from words) more (omega arith))
     ∙ take-append-le k (drop a (take from words)) more (omega (arith, length-drop a (take from words)))
 
-pub part-before :
+pub part_before :
     (from n a k : ℕ) (words part : List ℕ) → from ≤ length words → a + k ≤ from →
-    part_of a k (withPart from n words part) ≡ part_of a k words
-part-before from n a k words part h le =
+    part_of a k (with_part from n words part) ≡ part_of a k words
+part_before from n a k words part h le =
     front from a k words (part ++ drop n (drop from words)) h le
     ∙ sym (front from a k words (drop from words) h le)
     ∙ ap (part_of a k) (take-append-drop from words)
 
-pub one-before :
+pub one_before :
     (from n i : ℕ) (words part : List ℕ) → from ≤ length words → i < from →
-    get_or (withPart from n words part) i 0 ≡ get_or words i 0
-one-before from n i words part h lt =
+    get_or (with_part from n words part) i 0 ≡ get_or words i 0
+one_before from n i words part h lt =
     let l : length (take from words) ≡ from = length-take-le from words h in
     get_or-append (take from words) (part ++ drop n (drop from words)) 0 i (omega arith)
     ∙ get_or-take from words i 0 lt
 
 -- ---- behind
 
-pub part-behind :
+pub part_behind :
     (from n a k : ℕ) (words part : List ℕ) → from ≤ length words → length part ≡ n → from + n ≤ a →
-    part_of a k (withPart from n words part) ≡ part_of a k words
-part-behind from n a k words part h e le =
+    part_of a k (with_part from n words part) ≡ part_of a k words
+part_behind from n a k words part h e le =
     let all : from + n + (a - (from + n)) ≡ a = omega arith in
-    let stored = withPart from n words part in
+    let stored = with_part from n words part in
     let past : drop (from + n) stored ≡ drop (from + n) words =
     sym (drop-drop n from stored)
     ∙ ap (drop n) (drop_at (take from words) (part ++ drop n (drop from words)) from (length-take-le from words h))
@@ -70,52 +70,52 @@ part-behind from n a k words part h e le =
 
 -- ---- around
 
-drop-take : (n m k : ℕ) (l : List ℕ) → n + m ≡ k → drop n (take k l) ≡ take m (drop n l)
-drop-take zero m k l e =
+drop_take : (n m k : ℕ) (l : List ℕ) → n + m ≡ k → drop n (take k l) ≡ take m (drop n l)
+drop_take zero m k l e =
     let same : k ≡ m = omega arith in
     ap (λ (i : ℕ). take i l) same
-drop-take (suc n) m zero l e = absurd (omega arith)
-drop-take (suc n) m (suc k) [] e = sym (take-nil m)
-drop-take (suc n) m (suc k) (x ∷ xs) e = drop-take n m k xs (omega arith)
+drop_take (suc n) m zero l e = absurd (omega arith)
+drop_take (suc n) m (suc k) [] e = sym (take-nil m)
+drop_take (suc n) m (suc k) (x ∷ xs) e = drop_take n m k xs (omega arith)
 
-take-front :
+take_front :
     (n k : ℕ) (words part : List ℕ) → length part ≡ n → n ≤ k →
     take k (part ++ drop n words) ≡ part ++ drop n (take k words)
-take-front n k words part e le =
+take_front n k words part e le =
     let all : k ≡ length part + (k - n) = omega arith in
     ap (λ (i : ℕ). take i (part ++ drop n words)) all
     ∙ take-append-add part (drop n words) (k - n)
-    ∙ ap (λ (l : List ℕ). part ++ l) (sym (drop-take n (k - n) k words (omega arith)))
+    ∙ ap (λ (l : List ℕ). part ++ l) (sym (drop_take n (k - n) k words (omega arith)))
 
 take_within :
     (j n k : ℕ) (words part : List ℕ) → j ≤ length words → length part ≡ n → j + n ≤ k →
-    take k (withPart j n words part) ≡ withPart j n (take k words) part
-take_within zero n k words part h e le = take-front n k words part e (omega arith)
+    take k (with_part j n words part) ≡ with_part j n (take k words) part
+take_within zero n k words part h e le = take_front n k words part e (omega arith)
 take_within (suc j) n zero words part h e le = absurd (omega arith)
 take_within (suc j) n (suc k) [] part h e le = absurd (omega arith)
 take_within (suc j) n (suc k) (x ∷ xs) part h e le =
     ap (λ (l : List ℕ). x ∷ l) (take_within j n k xs part (omega arith) e (omega arith))
 
-pub part-within :
+pub part_within :
     (a j from n k : ℕ) (words part : List ℕ) → from ≡ a + j → from ≤ length words → length part ≡ n → j + n ≤ k →
-    part_of a k (withPart from n words part) ≡ withPart j n (part_of a k words) part
-part-within zero j from n k words part q h e le =
+    part_of a k (with_part from n words part) ≡ with_part j n (part_of a k words) part
+part_within zero j from n k words part q h e le =
     let same : from ≡ j = omega arith in
-    ap (λ (i : ℕ). take k (withPart i n words part)) same ∙ take_within j n k words part (omega arith) e le
-part-within (suc a) j zero n k words part q h e le = absurd (omega arith)
-part-within (suc a) j (suc from) n k [] part q h e le = absurd (omega arith)
-part-within (suc a) j (suc from) n k (x ∷ xs) part q h e le =
-    part-within a j from n k xs part (omega arith) (omega arith) e le
+    ap (λ (i : ℕ). take k (with_part i n words part)) same ∙ take_within j n k words part (omega arith) e le
+part_within (suc a) j zero n k words part q h e le = absurd (omega arith)
+part_within (suc a) j (suc from) n k [] part q h e le = absurd (omega arith)
+part_within (suc a) j (suc from) n k (x ∷ xs) part q h e le =
+    part_within a j from n k xs part (omega arith) (omega arith) e le
 
 -- ---- the length
 
 pub length_part : (a k : ℕ) (words : List ℕ) → a + k ≤ length words → length (part_of a k words) ≡ k
 length_part a k words h = length-take-le k (drop a words) (omega (arith, length-drop a words))
 
-pub length-stored :
+pub length_stored :
     (from n : ℕ) (words part : List ℕ) → from + n ≤ length words → length part ≡ n →
-    length (withPart from n words part) ≡ length words
-length-stored from n words part h e =
+    length (with_part from n words part) ≡ length words
+length_stored from n words part h e =
     let behind = drop n (drop from words) in
     omega (
       arith,
@@ -129,29 +129,29 @@ length-stored from n words part h e =
 -- ---- lists by a function
 
 module _ {A : Type 0} where
-  pub by-at :
-      (k : ℕ) (f : ℕ → A) (a i at : ℕ) (other : A) → i < k → a + i ≡ at → get_or (listBy k f a) i other ≡ f at
-  by-at zero f a i at other h e = absurd (omega arith)
-  by-at (suc k) f a zero at other h e =
+  pub by_at :
+      (k : ℕ) (f : ℕ → A) (a i at : ℕ) (other : A) → i < k → a + i ≡ at → get_or (list_by k f a) i other ≡ f at
+  by_at zero f a i at other h e = absurd (omega arith)
+  by_at (suc k) f a zero at other h e =
       let here : a ≡ at = omega arith in
       ap f here
-  by-at (suc k) f a (suc i) at other h e = by-at k f (suc a) i at other (omega arith) (omega arith)
+  by_at (suc k) f a (suc i) at other h e = by_at k f (suc a) i at other (omega arith) (omega arith)
 
-  pub by-same :
-      (k : ℕ) (f g : ℕ → A) (a : ℕ) → ((i : ℕ) → a ≤ i → g i ≡ f i) → listBy k g a ≡ listBy k f a
-  by-same zero f g a h = refl
-  by-same (suc k) f g a h =
-      ap (λ (d : A). d ∷ listBy k g (suc a)) (h a (omega arith))
-      ∙ ap (λ (l : List A). f a ∷ l) (by-same k f g (suc a) (λ i le. h i (omega arith)))
+  pub by_same :
+      (k : ℕ) (f g : ℕ → A) (a : ℕ) → ((i : ℕ) → a ≤ i → g i ≡ f i) → list_by k g a ≡ list_by k f a
+  by_same zero f g a h = refl
+  by_same (suc k) f g a h =
+      ap (λ (d : A). d ∷ list_by k g (suc a)) (h a (omega arith))
+      ∙ ap (λ (l : List A). f a ∷ l) (by_same k f g (suc a) (λ i le. h i (omega arith)))
 
-  pub by-set :
+  pub by_set :
       (k : ℕ) (f g : ℕ → A) (a j at : ℕ) (d : A) → j < k → a + j ≡ at → g at ≡ d →
-      ((i : ℕ) → (i ≡ at → ⊥) → g i ≡ f i) → listBy k g a ≡ set (listBy k f a) j d
-  by-set zero f g a j at d h e here others = absurd (omega arith)
-  by-set (suc k) f g a zero at d h e here others =
+      ((i : ℕ) → (i ≡ at → ⊥) → g i ≡ f i) → list_by k g a ≡ set (list_by k f a) j d
+  by_set zero f g a j at d h e here others = absurd (omega arith)
+  by_set (suc k) f g a zero at d h e here others =
       let is : a ≡ at = omega arith in
-      ap (λ (x : A). x ∷ listBy k g (suc a)) (ap g is ∙ here)
-      ∙ ap (λ (l : List A). d ∷ l) (by-same k f g (suc a) (λ i le. others i (λ q. omega arith)))
-  by-set (suc k) f g a (suc j) at d h e here others =
-      ap (λ (x : A). x ∷ listBy k g (suc a)) (others a (λ q. omega arith))
-      ∙ ap (λ (l : List A). f a ∷ l) (by-set k f g (suc a) j at d (omega arith) (omega arith) here others)
+      ap (λ (x : A). x ∷ list_by k g (suc a)) (ap g is ∙ here)
+      ∙ ap (λ (l : List A). d ∷ l) (by_same k f g (suc a) (λ i le. others i (λ q. omega arith)))
+  by_set (suc k) f g a (suc j) at d h e here others =
+      ap (λ (x : A). x ∷ list_by k g (suc a)) (others a (λ q. omega arith))
+      ∙ ap (λ (l : List A). f a ∷ l) (by_set k f g (suc a) j at d (omega arith) (omega arith) here others)

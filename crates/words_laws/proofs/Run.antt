@@ -15,24 +15,24 @@ use Rattle.node_call.specs.Calls.{
   set,
   cycle,
   confirm,
-  nodeAfter,
+  node_after,
   answer_of,
-  callNumber,
-  bytesAfter,
-  lentTo,
-  toldBy,
-  answerTo,
-  answersTo,
-  nodeAfterAll,
+  call_number,
+  bytes_after,
+  lent_to,
+  told_by,
+  answer_to,
+  answers_to,
+  node_after_all,
 }
 use Rattle.node_laws.specs.Reachable.{IsCall, AreCalls}
-use Rattle.node_words.specs.Words.{nodeSize}
+use Rattle.node_words.specs.Words.{node_size}
 use Rattle.node_words.specs.Node.{node_of}
-use Rattle.words_laws.specs.Run.{answer_in, bytesIn, wordsAfter, answerOn, answersOn, wordsAfterAll}
+use Rattle.words_laws.specs.Run.{answer_in, bytes_in, words_after, answer_on, answers_on, words_after_all}
 use Rattle.words_laws.proofs.Calls.{
-  frame-answer,
-  frame-node,
-  frame-size,
+  frame_answer,
+  frame_node,
+  frame_size,
   frame_refused,
   read_answer,
   set-answer,
@@ -46,28 +46,28 @@ use Rattle.words_laws.proofs.Calls.{
   confirm-bytes,
 }
 use Rattle.words_laws.proofs.Cycle.{
-  cycle-answer,
-  cycle-node,
-  cycle-size,
-  cycle-refused,
-  cycle-bytes,
-  cycle-number,
+  cycle_answer_lem,
+  cycle_node,
+  cycle_size,
+  cycle_refused_lem,
+  cycle_bytes_lem,
+  cycle_number_lem,
 }
 
 -- ---- What a call on words shares with the call on the node that they say.
 pub record Same (words : List ℕ) (c : Call) : Type 0 where
   pub answer : answer_in words c ≡ answer_of (node_of words) c
-  pub bytes : (before : List ℕ) → bytesIn words c before ≡ bytesAfter (node_of words) c before
-  pub node : node_of (wordsAfter words c) ≡ nodeAfter (node_of words) c
-  pub size : length (wordsAfter words c) ≡ nodeSize
+  pub bytes : (before : List ℕ) → bytes_in words c before ≡ bytes_after (node_of words) c before
+  pub node : node_of (words_after words c) ≡ node_after (node_of words) c
+  pub size : length (words_after words c) ≡ node_size
 
-pub same : (words : List ℕ) → length words ≡ nodeSize → (c : Call) → IsCall c → Same words c
+pub same : (words : List ℕ) → length words ≡ node_size → (c : Call) → IsCall c → Same words c
 same words size (frame t bytes) is =
     record {
-      answer = ap Frame (frame-answer words t.0 bytes);
+      answer = ap Frame (frame_answer words t.0 bytes);
       bytes = λ before. refl;
-      node = frame-node words t.0 bytes size is;
-      size = frame-size words t.0 bytes size;
+      node = frame_node words t.0 bytes size is;
+      size = frame_size words t.0 bytes size;
     }
 same words size (read domain t) is =
     record {
@@ -85,10 +85,10 @@ same words size (set domain t s ns) is =
     }
 same words size (cycle t out) is =
     record {
-      answer = ap Cycle (cycle-answer words t.0 (length out) size);
-      bytes = λ before. cycle-bytes words t.0 out size;
-      node = cycle-node words t.0 (length out) size;
-      size = cycle-size words t.0 (length out) size;
+      answer = ap Cycle (cycle_answer_lem words t.0 (length out) size);
+      bytes = λ before. cycle_bytes_lem words t.0 out size;
+      node = cycle_node words t.0 (length out) size;
+      size = cycle_size words t.0 (length out) size;
     }
 same words size (confirm domain t counter out) is =
     record {
@@ -99,37 +99,37 @@ same words size (confirm domain t counter out) is =
     }
 
 -- ---- Demand 1 on words: a refused call leaves every word, to the bit; 6 and 15 keep a row.
-pub refused-same : (words : List ℕ) (c : Call) → StateStays (callNumber (answer_in words c)) → wordsAfter words c ≡ words
-refused-same words (frame t bytes) stays = frame_refused words t.0 bytes stays
-refused-same words (read domain t) stays = refl
-refused-same words (set domain t s ns) stays = set-refused words domain t.0 s ns stays.0
-refused-same words (cycle t out) stays =
-    cycle-refused words t.0 (length out) (λ e. stays.0 (sym (cycle-number words t.0 (length out)) ∙ e))
-refused-same words (confirm domain t counter out) stays = confirm-refused words domain t.0 counter out stays.0
+pub refused_same : (words : List ℕ) (c : Call) → StateStays (call_number (answer_in words c)) → words_after words c ≡ words
+refused_same words (frame t bytes) stays = frame_refused words t.0 bytes stays
+refused_same words (read domain t) stays = refl
+refused_same words (set domain t s ns) stays = set-refused words domain t.0 s ns stays.0
+refused_same words (cycle t out) stays =
+    cycle_refused_lem words t.0 (length out) (λ e. stays.0 (sym (cycle_number_lem words t.0 (length out)) ∙ e))
+refused_same words (confirm domain t counter out) stays = confirm-refused words domain t.0 counter out stays.0
 
 -- ---- Calls one after another.
 pub same_answer :
-    (words : List ℕ) → length words ≡ nodeSize → (c : Call) → IsCall c →
-    answerOn words c ≡ answerTo (node_of words) c
+    (words : List ℕ) → length words ≡ node_size → (c : Call) → IsCall c →
+    answer_on words c ≡ answer_to (node_of words) c
 same_answer words size c is =
     let s = same words size c is in
-    λ i. toldBy (s.answer i) (s.bytes (lentTo c) i)
+    λ i. told_by (s.answer i) (s.bytes (lent_to c) i)
 
-pub same-answers :
-    (words : List ℕ) → length words ≡ nodeSize → (cs : List Call) → AreCalls cs →
-    answersOn words cs ≡ answersTo (node_of words) cs
-same-answers words size [] are = refl
-same-answers words size (c ∷ rest) are =
+pub same_answers :
+    (words : List ℕ) → length words ≡ node_size → (cs : List Call) → AreCalls cs →
+    answers_on words cs ≡ answers_to (node_of words) cs
+same_answers words size [] are = refl
+same_answers words size (c ∷ rest) are =
     let s = same words size c are.0 in
     let here = same_answer words size c are.0 in
     let then =
-    same-answers (wordsAfter words c) s.size rest are.1 ∙ ap (λ (n : Node). answersTo n rest) s.node in
+    same_answers (words_after words c) s.size rest are.1 ∙ ap (λ (n : Node). answers_to n rest) s.node in
     λ i. here i ∷ then i
 
-pub same-node :
-    (words : List ℕ) → length words ≡ nodeSize → (cs : List Call) → AreCalls cs →
-    node_of (wordsAfterAll words cs) ≡ nodeAfterAll (node_of words) cs
-same-node words size [] are = refl
-same-node words size (c ∷ rest) are =
+pub same_node :
+    (words : List ℕ) → length words ≡ node_size → (cs : List Call) → AreCalls cs →
+    node_of (words_after_all words cs) ≡ node_after_all (node_of words) cs
+same_node words size [] are = refl
+same_node words size (c ∷ rest) are =
     let s = same words size c are.0 in
-    same-node (wordsAfter words c) s.size rest are.1 ∙ ap (λ (n : Node). nodeAfterAll n rest) s.node
+    same_node (words_after words c) s.size rest are.1 ∙ ap (λ (n : Node). node_after_all n rest) s.node

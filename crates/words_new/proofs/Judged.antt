@@ -1,4 +1,4 @@
--- The node that is made of settings in words is that of `newOf`, and so is the number. No contract cites this file.
+-- The node that is made of settings in words is that of `new_of`, and so is the number. No contract cites this file.
 --   judged-number    0 where they are taken, else 14
 --   judged-words     the words
 -- Assumes nothing.
@@ -9,33 +9,33 @@ use mathlib.Core.List.{List}
 use Rattle.refusal.specs.declared.Refusal.TheVariants.{Settings}
 use Rattle.settings.specs.declared.node_settings.Verdict.{Verdict}
 use Rattle.settings.specs.declared.node_settings.Verdict.TheVariants.{Good, Refused}
-use Rattle.settings.specs.Node.{verdictNumber}
-use Rattle.node.specs.New.{newAs, newOf}
-use Rattle.node_words.specs.Node.{nodeWords}
-use Rattle.words_new.specs.New.{nodeGiven}
-use Rattle.words_new.specs.Made.{is_taken, madeNode}
+use Rattle.settings.specs.Node.{verdict_number}
+use Rattle.node.specs.New.{new_as, new_of}
+use Rattle.node_words.specs.Node.{node_words}
+use Rattle.words_new.specs.New.{node_given}
+use Rattle.words_new.specs.Made.{is_taken, made_node}
 
-abbrev verdictBy : (taken : Bool) → Verdict
-verdictBy taken = cond taken Good (Refused Settings)
+abbrev verdict_by : (taken : Bool) → Verdict
+verdict_by taken = cond taken Good (Refused Settings)
 
 module _ (given : List ℕ) where
-  number_by : (taken : Bool) → cond taken 0 14 ≡ verdictNumber (newAs (verdictBy taken) (nodeGiven given)).verdict
+  number_by : (taken : Bool) → cond taken 0 14 ≡ verdict_number (new_as (verdict_by taken) (node_given given)).verdict
   number_by true = refl
   number_by false = refl
 
-  words-by :
+  words_by :
       (taken : Bool) →
-      nodeWords (madeNode taken given) ≡ nodeWords (newAs (verdictBy taken) (nodeGiven given)).node
-  words-by true = refl
-  words-by false = refl
+      node_words (made_node taken given) ≡ node_words (new_as (verdict_by taken) (node_given given)).node
+  words_by true = refl
+  words_by false = refl
 
-  pub judged-number :
-      (taken : Bool) → taken ≡ is_taken given → cond taken 0 14 ≡ verdictNumber (newOf (nodeGiven given)).verdict
-  judged-number taken e =
-      number_by taken ∙ ap (λ (t : Bool). verdictNumber (newAs (verdictBy t) (nodeGiven given)).verdict) e
+  pub judged_number :
+      (taken : Bool) → taken ≡ is_taken given → cond taken 0 14 ≡ verdict_number (new_of (node_given given)).verdict
+  judged_number taken e =
+      number_by taken ∙ ap (λ (t : Bool). verdict_number (new_as (verdict_by t) (node_given given)).verdict) e
 
-  pub judged-words :
+  pub judged_words :
       (taken : Bool) → taken ≡ is_taken given →
-      nodeWords (madeNode taken given) ≡ nodeWords (newOf (nodeGiven given)).node
-  judged-words taken e =
-      words-by taken ∙ ap (λ (t : Bool). nodeWords (newAs (verdictBy t) (nodeGiven given)).node) e
+      node_words (made_node taken given) ≡ node_words (new_of (node_given given)).node
+  judged_words taken e =
+      words_by taken ∙ ap (λ (t : Bool). node_words (new_as (verdict_by t) (node_given given)).node) e

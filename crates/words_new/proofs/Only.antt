@@ -7,8 +7,8 @@ use mathlib.Core.List.{List}
 use Rattle.promise.specs.Only.{OnlyOne}
 use Rattle.words_new.specs.New.{NewIn}
 
-pub new-in-only : (given : List ℕ) → OnlyOne (λ (r : ℕ × List ℕ). NewIn given r.0 r.1)
-new-in-only given x y p q =
+pub new_in_only : (given : List ℕ) → OnlyOne (λ (r : ℕ × List ℕ). NewIn given r.0 r.1)
+new_in_only given x y p q =
     let number = p.number ∙ sym q.number in
-    let words = p.words-after ∙ sym q.words-after in
+    let words = p.words_after_lem ∙ sym q.words_after_lem in
     λ i. (number i, words i)

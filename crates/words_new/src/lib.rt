@@ -3,12 +3,12 @@
 // case: under 14 those of a node with all domains absent and S 1.
 ghost use Rattle.std.specs.Prelude.{◌<◌, ◌≡◌, ◌++◌, length, take, replicate};
 ghost use Rattle.settings.specs.Domain.{held_of};
-ghost use Rattle.settings.specs.Node.{places, allGood};
-ghost use Rattle.record_words.specs.Record.{settingsWords};
-ghost use Rattle.node_words.specs.Words.{nodeSize};
-ghost use Rattle.node_words.specs.Node.{recordsWords, nodeWords};
-ghost use Rattle.words_new.specs.New.{givenSize, givenAt, nodeGiven, NewIn};
-ghost use Rattle.words_new.specs.Made.{is_taken, madeSyncs, madeAt, madeNode};
+ghost use Rattle.settings.specs.Node.{places, all_good};
+ghost use Rattle.record_words.specs.Record.{settings_words};
+ghost use Rattle.node_words.specs.Words.{node_size};
+ghost use Rattle.node_words.specs.Node.{records_words, node_words};
+ghost use Rattle.words_new.specs.New.{given_size, given_at, node_given, NewIn};
+ghost use Rattle.words_new.specs.Made.{is_taken, made_syncs, made_at, made_node};
 
 use node_words::{HEAD_WORDS, NODE_WORDS, RECORD_WORDS};
 use record_words::{SETTINGS_WORDS, STATE_WORDS, given_of, packed, settings_words};
@@ -29,7 +29,7 @@ pub fn new_in(node: &mut [u64; NODE_WORDS], given: &[u64; GIVEN_WORDS]) -> u8
 
 // Whether S and each domain are in range.
 fn is_taken(given: &[u64]) -> bool
-    requires { length given.now ≡ givenSize }
+    requires { length given.now ≡ given_size }
     ensures { result ≡ is_taken given.now }
 {
     let syncs = syncs_of(given);
@@ -43,8 +43,8 @@ fn is_taken(given: &[u64]) -> bool
 }
 
 fn all_good(given: &[u64]) -> bool
-    requires { length given.now ≡ givenSize }
-    ensures { result ≡ allGood (nodeGiven given.now).domains }
+    requires { length given.now ≡ given_size }
+    ensures { result ≡ all_good (node_given given.now).domains }
 {
     let mut d = 0;
     while d < NodeSettings::DOMAINS {
@@ -58,17 +58,17 @@ fn all_good(given: &[u64]) -> bool
 
 // S of the settings.
 fn syncs_of(given: &[u64]) -> u8
-    requires { length given.now ≡ givenSize }
-    ensures { result ≡ (nodeGiven given.now).syncs_per_cycle }
+    requires { length given.now ≡ given_size }
+    ensures { result ≡ (node_given given.now).syncs_per_cycle }
 {
     (given[0] % 256) as u8
 }
 
 // The settings of a domain.
 fn given_at(given: &[u64], at: usize) -> DomainSettings
-    requires given_len { length given.now ≡ givenSize }
+    requires given_len { length given.now ≡ given_size }
     requires at_lt_places { at < places }
-    ensures { result ≡ givenAt given.now at }
+    ensures { result ≡ given_at given.now at }
 {
     let from = 1 + SETTINGS_WORDS * at;
     given_of(eleven(&given[from..from + SETTINGS_WORDS]))
@@ -90,9 +90,9 @@ fn eleven(words: &[u64]) -> [u64; SETTINGS_WORDS]
 
 // The words of the node, of the settings that are taken, or of absent domains.
 fn put_node(node: &mut [u64], given: &[u64], taken: bool)
-    requires node_len { length node.old ≡ nodeSize }
-    requires given_len { length given.now ≡ givenSize }
-    ensures { node.new ≡ nodeWords (madeNode taken given.now) }
+    requires node_len { length node.old ≡ node_size }
+    requires given_len { length given.now ≡ given_size }
+    ensures { node.new ≡ node_words (made_node taken given.now) }
 {
     node[0] = 0;
     node[1] = packed(0, made_syncs(given, taken), 0, 0, 0);
@@ -100,10 +100,10 @@ fn put_node(node: &mut [u64], given: &[u64], taken: bool)
 }
 
 fn put_records(node: &mut [u64], given: &[u64], taken: bool)
-    requires node_len { length node.old ≡ nodeSize }
-    requires given_len { length given.now ≡ givenSize }
+    requires node_len { length node.old ≡ node_size }
+    requires given_len { length given.now ≡ given_size }
     ensures { node.new ≡ take 2 node.old
-        ++ recordsWords (madeNode taken given.now).domains }
+        ++ records_words (made_node taken given.now).domains }
 {
     let mut d = 0;
     while d < NodeSettings::DOMAINS {
@@ -116,17 +116,17 @@ fn put_records(node: &mut [u64], given: &[u64], taken: bool)
 
 // S of the node.
 fn made_syncs(given: &[u64], taken: bool) -> u8
-    requires { length given.now ≡ givenSize }
-    ensures { result ≡ madeSyncs taken given.now }
+    requires { length given.now ≡ given_size }
+    ensures { result ≡ made_syncs taken given.now }
 {
     if taken { syncs_of(given) } else { 1 }
 }
 
 // The settings of a domain of the node.
 fn made_at(given: &[u64], taken: bool, at: usize) -> DomainSettings
-    requires given_len { length given.now ≡ givenSize }
+    requires given_len { length given.now ≡ given_size }
     requires at_lt_places { at < places }
-    ensures { result ≡ madeAt taken given.now at }
+    ensures { result ≡ made_at taken given.now at }
 {
     if taken {
         given_at(given, at)
@@ -137,9 +137,9 @@ fn made_at(given: &[u64], taken: bool, at: usize) -> DomainSettings
 
 // What is held of them, in words.
 fn held_at(given: &[u64], taken: bool, at: usize) -> [u64; SETTINGS_WORDS]
-    requires given_len { length given.now ≡ givenSize }
+    requires given_len { length given.now ≡ given_size }
     requires at_lt_places { at < places }
-    ensures { result ≡ settingsWords (held_of (madeAt taken given.now at)) at }
+    ensures { result ≡ settings_words (held_of (made_at taken given.now at)) at }
 {
     settings_words(made_at(given, taken, at).held(), at as u8)
 }

@@ -29,7 +29,7 @@ returns-3 c =
     rw (
       sym own.before.before.is-good-reading.ensures ∙ not-false _ own.before.if1.false,
       eq-eqb _ _ own.if2.false,
-      sym c.before.is-in.ensures ∙ not-true _ c.if3.true,
+      sym c.before.stands_in.ensures ∙ not-true _ c.if3.true,
     )
 
 returns-4 : tie.Need-returns-4
@@ -38,7 +38,7 @@ returns-4 c =
     rw (
       sym own.before.before.is-good-reading.ensures ∙ not-false _ own.before.if1.false,
       eq-eqb _ _ own.if2.false,
-      sym c.before.is-in.ensures ∙ not-false _ c.if3.false,
+      sym c.before.stands_in.ensures ∙ not-false _ c.if3.false,
     )
 
 pub admit-spec : {M : Type 1} → statement M

@@ -5,13 +5,13 @@ use Prim.Native.Nat.{ℕ}
 use mathlib.Core.Path.{◌≡◌}
 use mathlib.Core.List.{List}
 use Rattle.promise.specs.Only.{OnlyOne}
-use Rattle.promise.proofs.Laws.{equation-only}
+use Rattle.promise.proofs.Laws.{equation_only}
 use Rattle.clock.specs.declared.reading.VirtualLocalTime.{VirtualLocalTime}
 use Rattle.settings.specs.declared.domain_settings.Role.{Role}
 use Rattle.admission.specs.declared.frames.FrameAdmission.{FrameAdmission}
-use Rattle.admission.specs.FrameAdmission.{frameAdmitted}
+use Rattle.admission.specs.FrameAdmission.{frame_admitted}
 
-pub admit-frame-only :
+pub admit_frame_only :
     (kept t : VirtualLocalTime) (own : ℕ) (role : Role) (bytes : List ℕ) →
-    OnlyOne (λ (r : FrameAdmission). r ≡ frameAdmitted kept t own role bytes)
-admit-frame-only kept t own role bytes = equation-only _
+    OnlyOne (λ (r : FrameAdmission). r ≡ frame_admitted kept t own role bytes)
+admit_frame_only kept t own role bytes = equation_only _

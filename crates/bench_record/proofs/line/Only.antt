@@ -5,11 +5,11 @@ use Prim.Native.Nat.{ℕ}
 use mathlib.Core.List.{List}
 use Rattle.promise.specs.Only.{OnlyOne}
 use Rattle.text.specs.Text.{Puts}
-use Rattle.text.proofs.Only.{puts-only}
+use Rattle.text.proofs.Only.{puts_only}
 use Rattle.call_read.specs.declared.Shown.{Shown}
-use Rattle.bench_record.specs.Line.{shownText}
+use Rattle.bench_record.specs.Line.{shown_text}
 
-pub put-shown-only :
+pub put_shown_only :
     (shown : Shown) (at : ℕ) (before : List ℕ) →
-    OnlyOne (λ (r : ℕ × List ℕ). Puts (shownText shown) at before r.0 r.1)
-put-shown-only shown = puts-only (shownText shown)
+    OnlyOne (λ (r : ℕ × List ℕ). Puts (shown_text shown) at before r.0 r.1)
+put_shown_only shown = puts_only (shown_text shown)

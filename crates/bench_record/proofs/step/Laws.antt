@@ -34,11 +34,11 @@ answered line e p =
 module _
     (line : CallAnswer → List ℕ → List ℕ) (given : List ℕ) (lent : Request → List ℕ) (n : Node) (item : ℕ)
     {a : Asked} {at : ℕ} {before : List ℕ} {r : Step} {after : List ℕ} where
-  pub bad-stepped :
+  pub bad_stepped :
       a ≡ Bad → Ended n item at before r after → RecordStepped a line given lent n item at before r after
-  bad-stepped e p = subst (λ x. RecordStepped x line given lent n item at before r after) (sym e) p
+  bad_stepped e p = subst (λ x. RecordStepped x line given lent n item at before r after) (sym e) p
 
-  pub call-stepped :
+  pub call_stepped :
       {q : Request} → a ≡ Call q → Answered line n q given (lent q) at before r after →
       RecordStepped a line given lent n item at before r after
-  call-stepped e p = subst (λ x. RecordStepped x line given lent n item at before r after) (sym e) p
+  call_stepped e p = subst (λ x. RecordStepped x line given lent n item at before r after) (sym e) p

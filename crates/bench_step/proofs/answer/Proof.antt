@@ -2,7 +2,7 @@
 -- those. Assumes nothing.
 use borrow.Author.Rules.{rules}
 use Rattle.bench_record.proofs.step.Laws.{answered}
-use Rattle.bench_step.specs.BenchLine.{benchLine}
+use Rattle.bench_step.specs.BenchLine.{bench_line}
 use Rattle.bench_step.proofs.answer.Statement.{statement}
 use Rattle.bench_step.proofs.answer.Tie as tie
 
@@ -28,7 +28,7 @@ returns : tie.Need-returns
 returns c =
     let line = c.before.before in
     let called = line.before.before.before.before.before in
-    answered (benchLine _) called.call.ensures line.put-bench-line.ensures
+    answered (bench_line _) called.call.ensures line.put-bench-line.ensures
 
 pub answer-spec : {M : Type 1} → statement M
 answer-spec =

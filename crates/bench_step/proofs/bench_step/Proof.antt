@@ -1,9 +1,9 @@
 -- `bench_step::bench_step` meets its contract: each arm knows what the record asks for. Assumes nothing.
 use mathlib.Core.Path.{sym, ◌∙◌}
 use borrow.Author.Rules.{rules}
-use Rattle.bench_record.specs.Record.{payloadOf, lent}
-use Rattle.bench_record.proofs.step.Laws.{bad-stepped, call-stepped}
-use Rattle.bench_step.specs.BenchLine.{benchLine}
+use Rattle.bench_record.specs.Record.{payload_of, lent}
+use Rattle.bench_record.proofs.step.Laws.{bad_stepped, call_stepped}
+use Rattle.bench_step.specs.BenchLine.{bench_line}
 use Rattle.bench_step.proofs.bench_step.Statement.{statement}
 use Rattle.bench_step.proofs.bench_step.Tie as tie
 
@@ -34,7 +34,7 @@ returns c =
     let arm = wrote.before.before in
     let asked = arm.before.before in
     let a = asked.before.before.before.args in
-    bad-stepped (benchLine a.item) (payloadOf a.bytes.now) (λ q. lent) a.node a.item
+    bad_stepped (bench_line a.item) (payload_of a.bytes.now) (λ q. lent) a.node a.item
     (sym asked.asked_by.ensures ∙ arm.enum_told.given.1)
     wrote.bad-record.ensures
 
@@ -48,7 +48,7 @@ returns-2 c =
     let arm = read.before.before in
     let asked = arm.before.before in
     let a = asked.before.before.before.args in
-    call-stepped (benchLine a.item) (payloadOf a.bytes.now) (λ q. lent) a.node a.item
+    call_stepped (bench_line a.item) (payload_of a.bytes.now) (λ q. lent) a.node a.item
     (sym asked.asked_by.ensures ∙ arm.request.given.1)
     (rw read.payload.ensures at answered.answer.ensures)
 

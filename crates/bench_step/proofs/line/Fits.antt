@@ -6,8 +6,8 @@ use mathlib.Core.List.{List, ◌++◌}
 use native.Mathlib.Nat.{le_refl}
 use native.Mathlib.Omega.{arith}
 use lib.ListN.{length}
-use Rattle.text.specs.Text.{decimal, hexOf}
-use Rattle.text.proofs.Lengths.{decimal-length, hex-length, append-fits}
+use Rattle.text.specs.Text.{decimal, hex_of}
+use Rattle.text.proofs.Lengths.{decimal_length, hex_length, append_fits}
 use Rattle.text.specs.Lines.{blank}
 use Rattle.call_read.specs.declared.ReadAnswer.{ReadAnswer}
 use Rattle.call_read.specs.declared.ReadAnswer.TheVariants as read
@@ -16,41 +16,41 @@ use Rattle.node.specs.declared.cycles.CycleAnswer.TheVariants as cycle
 use Rattle.master_confirm.specs.declared.ConfirmAnswer.{ConfirmAnswer}
 use Rattle.master_confirm.specs.declared.ConfirmAnswer.TheVariants as confirm
 use Rattle.node_call.specs.declared.CallAnswer.{CallAnswer}
-use Rattle.node_call.specs.Calls.{callNumber}
+use Rattle.node_call.specs.Calls.{call_number}
 use Rattle.node_call.specs.declared.CallAnswer.TheVariants.{Frame, Read, Set, Cycle, Confirm}
-use Rattle.bench_record.proofs.line.Fits.{shown-fits, with-fits}
-use Rattle.bench_step.specs.BenchLine.{benchRead, framesText, benchCycle, benchConfirm, benchValues, benchLine}
+use Rattle.bench_record.proofs.line.Fits.{shown_fits, with_fits}
+use Rattle.bench_step.specs.BenchLine.{bench_read, frames_text, bench_cycle, bench_confirm, bench_values, bench_line}
 
-frame-fits : (sent : List ℕ) → length sent ≤ 8 → length (blank ++ hexOf sent) ≤ 17
-frame-fits sent h = append-fits blank (hexOf sent) {b = 16} (le_refl 1) (omega (arith, hex-length sent))
+frame_fits : (sent : List ℕ) → length sent ≤ 8 → length (blank ++ hex_of sent) ≤ 17
+frame_fits sent h = append_fits blank (hex_of sent) {b = 16} (le_refl 1) (omega (arith, hex_length sent))
 
-frames-fit : (count : ℕ) (sent : List ℕ) → length sent ≤ 8 → length (framesText count sent) ≤ 17
-frames-fit zero sent h = omega arith
-frames-fit (suc count) sent h = frame-fits sent h
+frames_fit : (count : ℕ) (sent : List ℕ) → length sent ≤ 8 → length (frames_text count sent) ≤ 17
+frames_fit zero sent h = omega arith
+frames_fit (suc count) sent h = frame_fits sent h
 
-read_fits : (answer : ReadAnswer) → length (benchRead answer) ≤ 34
+read_fits : (answer : ReadAnswer) → length (bench_read answer) ≤ 34
 read_fits (read.Refused refusal) = omega arith
-read_fits (read.Time shown) = shown-fits shown
+read_fits (read.Time shown) = shown_fits shown
 
-cycle-fits : (answer : CycleAnswer) (sent : List ℕ) → length sent ≤ 8 → length (benchCycle answer sent) ≤ 38
-cycle-fits (cycle.Refused refusal) sent h = omega arith
-cycle-fits (cycle.Sent count) sent h =
-    append-fits (blank ++ decimal count) (framesText count sent)
-    (append-fits blank (decimal count) (le_refl 1) (decimal-length count))
-    (frames-fit count sent h)
+cycle_fits : (answer : CycleAnswer) (sent : List ℕ) → length sent ≤ 8 → length (bench_cycle answer sent) ≤ 38
+cycle_fits (cycle.Refused refusal) sent h = omega arith
+cycle_fits (cycle.Sent count) sent h =
+    append_fits (blank ++ decimal count) (frames_text count sent)
+    (append_fits blank (decimal count) (le_refl 1) (decimal_length count))
+    (frames_fit count sent h)
 
-confirm-fits : (answer : ConfirmAnswer) (sent : List ℕ) → length sent ≤ 8 → length (benchConfirm answer sent) ≤ 17
-confirm-fits (confirm.Refused refusal) sent h = omega arith
-confirm-fits (confirm.Followed fup) sent h = frame-fits sent h
+confirm_fits : (answer : ConfirmAnswer) (sent : List ℕ) → length sent ≤ 8 → length (bench_confirm answer sent) ≤ 17
+confirm_fits (confirm.Refused refusal) sent h = omega arith
+confirm_fits (confirm.Followed fup) sent h = frame_fits sent h
 
-values-fit : (answer : CallAnswer) (sent : List ℕ) → length sent ≤ 8 → length (benchValues answer sent) ≤ 38
-values-fit (Frame answer) sent h = omega arith
-values-fit (Read answer) sent h = omega (arith, read_fits answer)
-values-fit (Set answer) sent h = omega arith
-values-fit (Cycle answer) sent h = cycle-fits answer sent h
-values-fit (Confirm answer) sent h = omega (arith, confirm-fits answer sent h)
+values_fit : (answer : CallAnswer) (sent : List ℕ) → length sent ≤ 8 → length (bench_values answer sent) ≤ 38
+values_fit (Frame answer) sent h = omega arith
+values_fit (Read answer) sent h = omega (arith, read_fits answer)
+values_fit (Set answer) sent h = omega arith
+values_fit (Cycle answer) sent h = cycle_fits answer sent h
+values_fit (Confirm answer) sent h = omega (arith, confirm_fits answer sent h)
 
-pub line-fits :
+pub line_fits :
     (item : ℕ) (answer : CallAnswer) (sent : List ℕ) → length sent ≤ 8 →
-    length (benchLine item answer sent) ≤ 80
-line-fits item answer sent h = with-fits item (callNumber answer) (benchValues answer sent) (values-fit answer sent h)
+    length (bench_line item answer sent) ≤ 80
+line_fits item answer sent h = with_fits item (call_number answer) (bench_values answer sent) (values_fit answer sent h)

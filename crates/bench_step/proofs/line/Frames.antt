@@ -2,13 +2,13 @@
 use Prim.Native.Nat.{ℕ, zero, suc}
 use mathlib.Core.Path.{◌≡◌, refl, sym, ap}
 use mathlib.Core.List.{List, [], ◌++◌}
-use Rattle.text.specs.Text.{hexOf}
+use Rattle.text.specs.Text.{hex_of}
 use Rattle.text.specs.Lines.{blank}
-use Rattle.bench_step.specs.BenchLine.{framesText}
+use Rattle.bench_step.specs.BenchLine.{frames_text}
 
-pub no-frame : (sent : List ℕ) {count : ℕ} → count ≡ 0 → [] ≡ framesText count sent
-no-frame sent e = ap (λ n. framesText n sent) (sym e)
+pub no_frame : (sent : List ℕ) {count : ℕ} → count ≡ 0 → [] ≡ frames_text count sent
+no_frame sent e = ap (λ n. frames_text n sent) (sym e)
 
-pub one-frame : (sent : List ℕ) (count : ℕ) → (count ≡ 0 → ⊥) → blank ++ hexOf sent ≡ framesText count sent
-one-frame sent zero some = absurd (some refl)
-one-frame sent (suc count) some = refl
+pub one_frame : (sent : List ℕ) (count : ℕ) → (count ≡ 0 → ⊥) → blank ++ hex_of sent ≡ frames_text count sent
+one_frame sent zero some = absurd (some refl)
+one_frame sent (suc count) some = refl

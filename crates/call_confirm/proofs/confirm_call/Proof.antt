@@ -6,28 +6,28 @@ use lib.Dec.{leb}
 use lib.ListN.{length}
 use borrow.Author.Rules.{rules}
 use Rattle.admission.specs.declared.Admission.{Admission}
-use Rattle.master_confirm.proofs.Laws.{followed-has-room}
-use Rattle.call_confirm.specs.ConfirmCall.{confirmCallAs, confirmCallOf}
+use Rattle.master_confirm.proofs.Laws.{followed_has_room}
+use Rattle.call_confirm.specs.ConfirmCall.{confirm_call_as, confirm_call_of}
 use Rattle.call_confirm.proofs.confirm_call.Statement.{statement}
 use Rattle.call_confirm.proofs.confirm_call.Tie as tie
 
 -- ---- what `admit` found decides the definition's arm
-as-found :
+as_found :
     (c : tie.After-admit) (f : Admission) → c.admit.result ≡ f → let a = c.before.before.before.args in
-    confirmCallOf a.domain a.kept a.asked a.t a.counter (length a.out.now)
-    ≡ confirmCallAs f a.domain a.kept a.t a.counter (length a.out.now)
-as-found c f e = rw (← c.admit.ensures, e)
+    confirm_call_of a.domain a.kept a.asked a.t a.counter (length a.out.now)
+    ≡ confirm_call_as f a.domain a.kept a.t a.counter (length a.out.now)
+as_found c f e = rw (← c.admit.ensures, e)
 
 called :
     (c : tie.After-kept-after) → let step = c.before.before.before in
     let a = step.before.before.before.before.before.before.args in
     let r = step.confirm.result in
     record { answer = r.answer; domain = r.domain; kept = c.kept-after.result }
-    ≡ confirmCallOf a.domain a.kept a.asked a.t a.counter (length a.out.now)
+    ≡ confirm_call_of a.domain a.kept a.asked a.t a.counter (length a.out.now)
 called c =
     let step = c.before.before.before in
     rw (c.kept-after.ensures, c.before.number.ensures, step.confirm.ensures)
-    (sym (as-found step.before.before.before _ step.before.enum_told.given.1))
+    (sym (as_found step.before.before.before _ step.before.enum_told.given.1))
 
 admit-requires : tie.Need-admit-requires
 admit-requires c κs = search rules
@@ -61,7 +61,7 @@ write-frame-requires c κs = search rules
 
 returns-2 : tie.Need-returns-2
 returns-2 c =
-    record { call = sym (as-found c.before.before.before _ c.before.refusal.given.1); bytes = refl }
+    record { call = sym (as_found c.before.before.before _ c.before.refusal.given.1); bytes = refl }
 
 same_length : tie.Need-same-length
 same_length c = search rules
@@ -74,7 +74,7 @@ returns-3 c =
     let a = step.before.before.before.before.before.before.args in
     let followed = at.answer.given.1 in
     let room =
-    followed-has-room a.domain a.t a.counter (leb 8 (length a.out.now)) _
+    followed_has_room a.domain a.t a.counter (leb 8 (length a.out.now)) _
     (rw step.confirm.ensures at followed)
     in
     record {

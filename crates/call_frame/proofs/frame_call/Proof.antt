@@ -3,19 +3,19 @@
 -- Assumes nothing.
 use mathlib.Core.Path.{◌≡◌, sym, ap, ◌∙◌}
 use Rattle.admission.specs.declared.frames.FrameAdmission.{FrameAdmission}
-use Rattle.call_frame.specs.FrameCall.{frameCallAs, frameCallOf}
+use Rattle.call_frame.specs.FrameCall.{frame_call_as, frame_call_of}
 use borrow.Author.Rules.{rules}
 use Rattle.call_frame.proofs.frame_call.Statement.{statement}
 use Rattle.call_frame.proofs.frame_call.Tie as tie
 
-as-found :
+as_found :
     (c : tie.After-admit-frame) (f : FrameAdmission) → c.admit-frame.result ≡ f →
     let a = c.before.before.before.args in
-    frameCallOf a.domain a.kept a.t a.bytes.now
-    ≡ frameCallAs f a.domain a.kept a.t a.bytes.now
-as-found c f e =
+    frame_call_of a.domain a.kept a.t a.bytes.now
+    ≡ frame_call_as f a.domain a.kept a.t a.bytes.now
+as_found c f e =
     let a = c.before.before.before.args in
-    ap (λ (f : FrameAdmission). frameCallAs f a.domain a.kept a.t a.bytes.now)
+    ap (λ (f : FrameAdmission). frame_call_as f a.domain a.kept a.t a.bytes.now)
     (sym c.admit-frame.ensures ∙ e)
 
 admit-frame-requires : tie.Need-admit-frame-requires
@@ -37,13 +37,13 @@ frame-kept-requires : tie.Need-frame-kept-requires
 frame-kept-requires c κs = search rules
 
 returns : tie.Need-returns
-returns c = sym (as-found c.before.before.before _ c.before.refusal.given.1)
+returns c = sym (as_found c.before.before.before _ c.before.refusal.given.1)
 
 returns-2 : tie.Need-returns-2
 returns-2 c =
     let at = c.before.before.before in
-    rw (c.frame-kept.ensures, c.before.number.ensures, at.take-frame.ensures)
-    (sym (as-found at.before.before.before.before _ at.before.before.values.given.1))
+    rw (c.frame_kept_lem.ensures, c.before.number.ensures, at.take-frame.ensures)
+    (sym (as_found at.before.before.before.before _ at.before.before.values.given.1))
 
 pub frame-call-spec : {M : Type 1} → statement M
 frame-call-spec =

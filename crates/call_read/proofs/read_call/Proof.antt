@@ -4,24 +4,24 @@
 use mathlib.Core.Path.{◌≡◌, sym, ap, ◌∙◌}
 use Rattle.clock.specs.declared.base.Held.{Held}
 use Rattle.admission.specs.declared.Admission.{Admission}
-use Rattle.call_read.specs.ReadCall.{readAs, readCallAs, readCallOf}
+use Rattle.call_read.specs.ReadCall.{read_as, read_call_as, read_call_of}
 use borrow.Author.Rules.{rules}
 use Rattle.call_read.proofs.read_call.Statement.{statement}
 use Rattle.call_read.proofs.read_call.Tie as tie
 
-as-found :
+as_found :
     (c : tie.After-admit) (f : Admission) → c.admit.result ≡ f → let a = c.before.before.args in
-    readCallOf a.domain a.kept a.asked a.t ≡ readCallAs f a.domain a.t
-as-found c f e =
+    read_call_of a.domain a.kept a.asked a.t ≡ read_call_as f a.domain a.t
+as_found c f e =
     let a = c.before.before.args in
-    ap (λ (f : Admission). readCallAs f a.domain a.t) (sym c.admit.ensures ∙ e)
+    ap (λ (f : Admission). read_call_as f a.domain a.t) (sym c.admit.ensures ∙ e)
 
-as-held :
+as_held :
     (c : tie.After-enum-told) (h : Held) → let a = c.before.before.before.before.args in
-    a.domain.base ≡ h → readCallOf a.domain a.kept a.asked a.t ≡ readAs h a.domain a.t
-as-held c h e =
+    a.domain.base ≡ h → read_call_of a.domain a.kept a.asked a.t ≡ read_as h a.domain a.t
+as_held c h e =
     let a = c.before.before.before.before.args in
-    as-found c.before.before _ c.enum_told.given.1 ∙ ap (λ (h : Held). readAs h a.domain a.t) e
+    as_found c.before.before _ c.enum_told.given.1 ∙ ap (λ (h : Held). read_as h a.domain a.t) e
 
 admit-requires : tie.Need-admit-requires
 admit-requires c κs = search rules
@@ -51,10 +51,10 @@ user-for-requires : tie.Need-user-for-requires
 user-for-requires c κs = search rules
 
 returns : tie.Need-returns
-returns c = sym (as-found c.before.before.before _ c.before.refusal.given.1)
+returns c = sym (as_found c.before.before.before _ c.before.refusal.given.1)
 
 returns-2 : tie.Need-returns-2
-returns-2 c = sym (as-held c.before.before _ c.enum-told2.given.1)
+returns-2 c = sym (as_held c.before.before _ c.enum-told2.given.1)
 
 returns-3 : tie.Need-returns-3
 returns-3 c =
@@ -66,7 +66,7 @@ returns-3 c =
       c.before.before.status-at.ensures,
       c.user-for.ensures,
     )
-    (sym (as-held found.before.before _ found.base.given.1))
+    (sym (as_held found.before.before _ found.base.given.1))
 
 pub read-call-spec : {M : Type 1} → statement M
 read-call-spec =

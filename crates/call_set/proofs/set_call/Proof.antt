@@ -3,18 +3,18 @@
 -- Assumes nothing.
 use mathlib.Core.Path.{◌≡◌, sym, ap, ◌∙◌}
 use Rattle.admission.specs.declared.Admission.{Admission}
-use Rattle.call_set.specs.SetCall.{setCallAs, setCallOf}
+use Rattle.call_set.specs.SetCall.{set_call_as, set_call_of}
 use borrow.Author.Rules.{rules}
 use Rattle.call_set.proofs.set_call.Statement.{statement}
 use Rattle.call_set.proofs.set_call.Tie as tie
 
-as-found :
+as_found :
     (c : tie.After-admit) (f : Admission) → c.admit.result ≡ f → let a = c.before.before.args in
-    setCallOf a.domain a.kept a.asked a.t a.seconds a.nanoseconds
-    ≡ setCallAs f a.domain a.kept a.t a.seconds a.nanoseconds
-as-found c f e =
+    set_call_of a.domain a.kept a.asked a.t a.seconds a.nanoseconds
+    ≡ set_call_as f a.domain a.kept a.t a.seconds a.nanoseconds
+as_found c f e =
     let a = c.before.before.args in
-    ap (λ (f : Admission). setCallAs f a.domain a.kept a.t a.seconds a.nanoseconds)
+    ap (λ (f : Admission). set_call_as f a.domain a.kept a.t a.seconds a.nanoseconds)
     (sym c.admit.ensures ∙ e)
 
 admit-requires : tie.Need-admit-requires
@@ -36,13 +36,13 @@ kept-after-requires : tie.Need-kept-after-requires
 kept-after-requires c κs = search rules
 
 returns : tie.Need-returns
-returns c = sym (as-found c.before.before.before _ c.before.refusal.given.1)
+returns c = sym (as_found c.before.before.before _ c.before.refusal.given.1)
 
 returns-2 : tie.Need-returns-2
 returns-2 c =
     let at = c.before.before.before in
-    rw (c.kept-after.ensures, c.before.number.ensures, at.set-time.ensures)
-    (sym (as-found at.before.before.before _ at.before.enum_told.given.1))
+    rw (c.kept-after.ensures, c.before.number.ensures, at.set_time.ensures)
+    (sym (as_found at.before.before.before _ at.before.enum_told.given.1))
 
 pub set-call-spec : {M : Type 1} → statement M
 set-call-spec =

@@ -10,30 +10,30 @@ use native.Mathlib.Omega.{arith}
 use lib.Dec.{ltb}
 use lib.IntN.{pos, negsuc, sub_ℕ}
 use Rattle.clock.specs.declared.time.GlobalTime.{GlobalTime}
-use Rattle.clock.specs.Time.{nanosecondsOf, IsRead}
-use Rattle.clock.specs.Difference.{held, differenceOf}
+use Rattle.clock.specs.Time.{nanoseconds_of, IsRead}
+use Rattle.clock.specs.Difference.{held, difference_of}
 
-pub difference-alike :
-    (a b c : GlobalTime) → nanosecondsOf b ≡ nanosecondsOf c → differenceOf a b ≡ differenceOf a c
-difference-alike a b c e = ap (λ (n : ℕ). held (sub_ℕ (nanosecondsOf a) n)) e
+pub difference_alike :
+    (a b c : GlobalTime) → nanoseconds_of b ≡ nanoseconds_of c → difference_of a b ≡ difference_of a c
+difference_alike a b c e = ap (λ (n : ℕ). held (sub_ℕ (nanoseconds_of a) n)) e
 
-pub difference-exact :
+pub difference_exact :
     (a b : GlobalTime) →
-    nanosecondsOf a < nanosecondsOf b + 2 ^ 63 → nanosecondsOf b ≤ nanosecondsOf a + 2 ^ 63 →
-    differenceOf a b ≡ sub_ℕ (nanosecondsOf a) (nanosecondsOf b)
-difference-exact a b up down = go (ltb (nanosecondsOf a) (nanosecondsOf b))
+    nanoseconds_of a < nanoseconds_of b + 2 ^ 63 → nanoseconds_of b ≤ nanoseconds_of a + 2 ^ 63 →
+    difference_of a b ≡ sub_ℕ (nanoseconds_of a) (nanoseconds_of b)
+difference_exact a b up down = go (ltb (nanoseconds_of a) (nanoseconds_of b))
   where
     x : ℕ
-    x = nanosecondsOf a
+    x = nanoseconds_of a
 
     y : ℕ
-    y = nanosecondsOf b
+    y = nanoseconds_of b
 
     go : (β : Bool) → held (cond β (negsuc (y - suc x)) (pos (x - y))) ≡ cond β (negsuc (y - suc x)) (pos (x - y))
     go true = ap negsuc (omega arith)
     go false = ap pos (omega arith)
 
-pub difference-read :
+pub difference_read :
     (a b : GlobalTime) → IsRead a → IsRead b →
-    differenceOf a b ≡ sub_ℕ (nanosecondsOf a) (nanosecondsOf b)
-difference-read a b p q = difference-exact a b (omega arith) (omega arith)
+    difference_of a b ≡ sub_ℕ (nanoseconds_of a) (nanoseconds_of b)
+difference_read a b p q = difference_exact a b (omega arith) (omega arith)

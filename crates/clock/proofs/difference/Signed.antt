@@ -27,9 +27,9 @@ pub tested :
     (d : ℤ) → SFits w64 d → (b : Bool) → lt_z (to_z w64 (of_z w64 d)) (pos 0) ≡ b → lt_z d (pos 0) ≡ b
 tested d f b e = rw (to_z-of_z w64 d f) at e
 
-pub not-below : (z : ℤ) → lt_z z (pos 0) ≡ false → z ≡ pos (nat_abs z)
-not-below (pos m) e = refl
-not-below (negsuc m) e = cc
+pub not_below : (z : ℤ) → lt_z z (pos 0) ≡ false → z ≡ pos (nat_abs z)
+not_below (pos m) e = refl
+not_below (negsuc m) e = cc
 
 pub below : (z : ℤ) → lt_z z (pos 0) ≡ true → z ≡ negsuc (nat_abs z - 1)
 below (pos m) e = absurd (omega (arith, ltb-true m 0 e))

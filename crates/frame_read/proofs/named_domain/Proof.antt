@@ -4,13 +4,13 @@ use mathlib.Core.Path.{sym, ap}
 use native.Mathlib.Omega.{arith}
 use lib.ListN.{get_or-eq_default}
 use borrow.Author.Rules.{rules}
-use Rattle.frame.specs.ByteTwo.{domainOf}
+use Rattle.frame.specs.ByteTwo.{domain_of}
 use Rattle.frame_read.proofs.named_domain.Statement.{statement}
 use Rattle.frame_read.proofs.named_domain.Tie as tie
 
 returns : tie.Need-returns
 returns c =
-    sym (ap domainOf (get_or-eq_default c.before.before.args.bytes.now 0 {n = 2} (omega arith)))
+    sym (ap domain_of (get_or-eq_default c.before.before.args.bytes.now 0 {n = 2} (omega arith)))
 
 shared-slice-read-domain-of : tie.Need-shared-slice-read-domain-of
 shared-slice-read-domain-of c = search rules

@@ -37,7 +37,7 @@ framed-requires-2 c κs = search rules
 returns : tie.Need-returns
 returns c =
     let a = c.before.before.before.before.before.before.before.args in
-    rw (c.framed.ensures, c.before.id-at.ensures, c.before.before.before.byte-two.ensures)
+    rw (c.framed.ensures, c.before.id-at.ensures, c.before.before.before.byte_two.ensures)
     (sym (ap (bytes_of a.ids) c.before.before.before.before.before.frame.given.1))
 
 returns-2 : tie.Need-returns-2

@@ -14,7 +14,7 @@ use Rattle.frame.specs.declared.data_ids.DataIds.{DataIds}
 use Rattle.frame.specs.declared.values.Frame.{Frame}
 use Rattle.frame_write.specs.declared.Written.TheVariants.{Done, NoRoom}
 use Rattle.frame_write.specs.Write.{bytes_of, WrittenAt}
-use Rattle.frame_write.proofs.Laws.{bytes-length}
+use Rattle.frame_write.proofs.Laws.{bytes_length}
 use Rattle.frame_write.proofs.write_frame.Statement.{statement}
 use Rattle.frame_write.proofs.write_frame.Tie as tie
 
@@ -29,7 +29,7 @@ module _ (f : Frame) (ids : DataIds) (at : ℕ) (before : List ℕ) where
       record {
         answer = rw (le-leb (at + 8) (length before) h);
         bytes =
-            rw (le-leb (at + 8) (length before) h, p, e, take_all 8 (bytes_of ids f) (le_of_eq (bytes-length ids f)));
+            rw (le-leb (at + 8) (length before) h, p, e, take_all 8 (bytes_of ids f) (le_of_eq (bytes_length ids f)));
       }
 
 returns : tie.Need-returns

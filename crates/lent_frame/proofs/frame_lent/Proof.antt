@@ -121,20 +121,20 @@ use Rattle.lent_frame.proofs.Walk.{
   loads,
   loads-field,
   rooms,
-  bytes-laid,
+  bytes_laid,
   BytesKnown,
   BytesOwned,
-  bytes-typed,
+  bytes_typed,
   Rest,
   RestVals,
   RestLast,
-  rest-last,
-  rest-spells,
-  rest-tells,
-  rest-stayed,
+  rest_last,
+  rest_spells,
+  rest_tells,
+  rest_stayed,
   rest_goes,
   rest,
-  rest-vals,
+  rest_vals,
   passed,
   Owned,
   RestOwned,
@@ -152,7 +152,7 @@ use Rattle.lent_frame.proofs.frame_lent.Code as code
 
 -- what is had of each parameter at exit
 abbrev stayed : Stays (f.ended).signature.params (f.ended).kept
-stayed = (stay_none (λ _. row T) yes, rest-stayed 1 0 tt)
+stayed = (stay_none (λ _. row T) yes, rest_stayed 1 0 tt)
 
 -- the record h at (b, o): in a local, and in memory as a reference to it has it; each gives the other
 module _ (b o : ℕ) (h : Domain) where
@@ -199,7 +199,7 @@ module _ {M : Type 1} {𝓤 : Ura M} (𝓛 : Logic 𝓤) (at_mem : Memory → SP
       x = (h, rest k t s)
 
       abbrev at : List Val × RestVals
-      at = (vals T h, rest-vals k t s)
+      at = (vals T h, rest_vals k t s)
 
       abbrev mine : (walk_of 𝓛 f.ended stayed clauses).Ghost
       mine = (((κ, tt), (q, tt), tt, x, at), tt)
@@ -237,7 +237,7 @@ module _ {M : Type 1} {𝓤 : Ura M} (𝓛 : Logic 𝓤) (at_mem : Memory → SP
       exits r d e is =
           qed 𝓛 (Token ∷ Bytes ∷ []) ∵
           suffices ! _
-          (ends_at 𝓛 f.ended stayed clauses mine (val S (back r d)) (back r d) (tt, rest-last) (tt, rest-last)) $
+          (ends_at 𝓛 f.ended stayed clauses mine (val S (back r d)) (back r d) (tt, rest_last) (tt, rest_last)) $
           says ! (λ i. back (e.call i) (e.domain i)) $ frame ! $
           use1 𝓛 Others (filled 𝓛 k t s 0 κ k-is t-is) $ had ! T h h-is $ fjoin ! $
           had ! S (back r d) is $ move ! (1 ∷ 0 ∷ []) $ done !
@@ -252,7 +252,7 @@ module _ {M : Type 1} {𝓤 : Ura M} (𝓛 : Logic 𝓤) (at_mem : Memory → SP
         y = (lent, rest k t s)
 
         abbrev y-at : List Val × RestVals
-        y-at = (vptr l 0 ∷ [], rest-vals k t s)
+        y-at = (vptr l 0 ∷ [], rest_vals k t s)
 
         abbrev κs : Lft × (Lft × Unit {0})
         κs = (α ∷ [], (κ, tt))
@@ -302,7 +302,7 @@ module _ {M : Type 1} {𝓤 : Ura M} (𝓛 : Logic 𝓤) (at_mem : Memory → SP
         abbrev En : Env 𝓤 H
         En =
             (laid S, l₀) ∷ (laid T, l₁) ∷ (laid K, l₂) ∷ (laid K, l₃) ∷
-            (bytes-laid 0, l₄) ∷ (laid T, l₅) ∷ (laid N, l₆) ∷
+            (bytes_laid 0, l₄) ∷ (laid T, l₅) ∷ (laid N, l₆) ∷
             (ty_ref erased mut (pointee (row T).written), l₇) ∷ (laid T, l₈) ∷ []
 
         -- from where the locals are made: the locals, the last first, the token, and what the parameters own
@@ -315,7 +315,7 @@ module _ {M : Type 1} {𝓤 : Ura M} (𝓛 : Logic 𝓤) (at_mem : Memory → SP
             pass1 ! (init ! 14 refl (typed 𝓛 T h h-is)) $
             pass1 ! (init ! 12 refl (typed 𝓛 K k k-is)) $
             pass1 ! (init ! 10 refl (typed 𝓛 K t t-is)) $
-            pass1 ! (init ! 8 refl (bytes-typed 𝓛 s 0 κ s-is)) $
+            pass1 ! (init ! 8 refl (bytes_typed 𝓛 s 0 κ s-is)) $
             pass0 ! $
             -- [room for _8; …; room for _7; …; room for _6; …; room for _5; …; _4; …; _3; …; _2; …; _1; …; room for _0;
             -- …; the bytes' token; what the parameters own]
@@ -381,7 +381,7 @@ module _ {M : Type 1} {𝓤 : Ura M} (𝓛 : Logic 𝓤) (at_mem : Memory → SP
     f-walks : Walks 𝓛 f.ended stayed (WpFn 𝓤 H C Λ code.function) clauses
     f-walks =
         walked 𝓛 f.ended stayed clauses (WpFn 𝓤 H C Λ code.function)
-        (λ κs. (vals T, rest-spells 0 κs.0)) (λ κs. (tells T, rest-tells 0 κs.0))
+        (λ κs. (vals T, rest_spells 0 κs.0)) (λ κs. (tells T, rest_tells 0 κs.0))
         (λ κs qs bounds a g are.
         via 𝓤 _ (fst∗ 𝓤 _ (emp 𝓤))
         (walk κs.0 qs.0 a.0 a.1.0 a.1.1.0 a.1.1.1.0

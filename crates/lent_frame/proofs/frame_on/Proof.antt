@@ -109,12 +109,12 @@ use denote.Triple.Walked.{
 use Rattle.clock.specs.declared.reading.VirtualLocalTime.{VirtualLocalTime}
 use Rattle.domain.specs.declared.Domain.{Domain}
 use Rattle.call_frame.specs.declared.FrameCall.{FrameCall}
-use Rattle.call_frame.specs.FrameCall.{frameCallOf}
+use Rattle.call_frame.specs.FrameCall.{frame_call_of}
 use Rattle.call_frame.specs.contracts.frame_call as g
 use Rattle.call_frame.proofs.frame_call.Symbol as g-def
 use Rattle.call_frame.proofs.frame_call.Symbol.{name as #frame-call}
 use Rattle.call_frame.proofs.frame_call.Met as g-thm
-use Rattle.lent_frame.specs.Lent.{lentFrame}
+use Rattle.lent_frame.specs.Lent.{lent_frame}
 use Rattle.lent_frame.proofs.Walk.{
   T,
   K,
@@ -135,19 +135,19 @@ use Rattle.lent_frame.proofs.Walk.{
   loads,
   loads-field,
   rooms,
-  bytes-laid,
+  bytes_laid,
   BytesKnown,
   BytesOwned,
-  bytes-typed,
+  bytes_typed,
   Rest,
   RestVals,
-  rest-last,
-  rest-spells,
-  rest-tells,
-  rest-stayed,
+  rest_last,
+  rest_spells,
+  rest_tells,
+  rest_stayed,
   rest_goes,
   rest,
-  rest-vals,
+  rest_vals,
   passed,
   Owned,
   RestOwned,
@@ -161,7 +161,7 @@ use Rattle.lent_frame.proofs.frame_on.Code as code
 
 -- what is had of each parameter at exit
 abbrev stayed : Stays (f.ended).signature.params (f.ended).kept
-stayed = (stay_ref (0 ∷ []) tt (plain (λ _. row T)), rest-stayed 2 1 tt)
+stayed = (stay_ref (0 ∷ []) tt (plain (λ _. row T)), rest_stayed 2 1 tt)
 
 module _ {M : Type 1} {𝓤 : Ura M} (𝓛 : Logic 𝓤) (at_mem : Memory → SProp 𝓤) (run : Routine → Fun 𝓤) where
   -- the contract that the proof cites, and the clauses that it proves
@@ -187,7 +187,7 @@ module _ {M : Type 1} {𝓤 : Ura M} (𝓛 : Logic 𝓤) (at_mem : Memory → SP
       x = (lent, rest k t s)
 
       abbrev at : List Val × RestVals
-      at = (vptr b o ∷ [], rest-vals k t s)
+      at = (vptr b o ∷ [], rest_vals k t s)
 
       abbrev mine : (walk_of 𝓛 f.ended stayed clauses).Ghost
       mine = (((κ, (κ', tt)), (q, (q', tt)), tt, x, at), tt)
@@ -213,12 +213,12 @@ module _ {M : Type 1} {𝓤 : Ura M} (𝓛 : Logic 𝓤) (at_mem : Memory → SP
       part : (r : FrameCall) → Known S r → Known T r.domain
       part r is = (parts S r is).1.0
 
-      made : (r : FrameCall) → Known S r → Known N (lentFrame r)
-      made r is = joined N (lentFrame r) ((parts S r is).0, ((parts S r is).1.1.0, tt))
+      made : (r : FrameCall) → Known S r → Known N (lent_frame r)
+      made r is = joined N (lent_frame r) ((parts S r is).0, ((parts S r is).1.1.0, tt))
 
       -- the end: the borrow at r's record, the tokens and the bytes give what the contract asks
       abbrev called : FrameCall
-      called = frameCallOf h k t s.now
+      called = frame_call_of h k t s.now
 
       abbrev Post : Val → SProp 𝓤
       Post = (walk_of 𝓛 f.ended stayed clauses).post mine
@@ -229,17 +229,17 @@ module _ {M : Type 1} {𝓤 : Ura M} (𝓛 : Logic 𝓤) (at_mem : Memory → SP
           Token ∷ Bytes ∷ []
 
       exits :
-          (r : FrameCall) → r ≡ called → Known N (lentFrame r) → ent 𝓤 (⋆ 𝓛 (After r)) (Post (val N (lentFrame r)))
+          (r : FrameCall) → r ≡ called → Known N (lent_frame r) → ent 𝓤 (⋆ 𝓛 (After r)) (Post (val N (lent_frame r)))
       exits r e is =
           qed 𝓛 (After r) ∵
           suffices ! _
-          (ends_at 𝓛 f.ended stayed clauses mine (val N (lentFrame r)) (lentFrame r)
-          (r.domain, rest-last) (tt, rest-last)) $
-          says ! (record { call = ap lentFrame e; domain = λ i. (e i).domain }) $
+          (ends_at 𝓛 f.ended stayed clauses mine (val N (lent_frame r)) (lent_frame r)
+          (r.domain, rest_last) (tt, rest_last)) $
+          says ! (record { call = ap lent_frame e; domain = λ i. (e i).domain }) $
           move ! (2 ∷ 3 ∷ []) $ join ! $ frame ! $
           feq_i ! (List Val) (vptr b o ∷ []) (vptr b o ∷ []) refl $ fjoin3 ! $
           move ! (1 ∷ []) $ use1 𝓛 Others (filled 𝓛 k t s 1 κ' k-is t-is) $
-          move ! (1 ∷ 0 ∷ []) $ fjoin ! $ had ! N (lentFrame r) is $ move ! (1 ∷ 0 ∷ []) $ done !
+          move ! (1 ∷ 0 ∷ []) $ fjoin ! $ had ! N (lent_frame r) is $ move ! (1 ∷ 0 ∷ []) $ done !
 
       -- the call: what the callee is passed, and that it is what the callee asks, with a copy of what the bytes own
       -- kept; what it gives, of which the clause alone is used
@@ -247,7 +247,7 @@ module _ {M : Type 1} {𝓤 : Ura M} (𝓛 : Logic 𝓤) (at_mem : Memory → SP
       y = (h, rest k t s)
 
       abbrev y-at : List Val × RestVals
-      y-at = (vals T h, rest-vals k t s)
+      y-at = (vals T h, rest_vals k t s)
 
       abbrev to-g : G.Ghost
       to-g = (((κ', tt), (q', tt), tt, y, y-at), tt)
@@ -281,7 +281,7 @@ module _ {M : Type 1} {𝓤 : Ura M} (𝓛 : Logic 𝓤) (at_mem : Memory → SP
         abbrev En : Env 𝓤 H
         En =
             (laid N, l₀) ∷ (ty_ref (named 0) mut (pointee (row T).written), l₁) ∷ (laid K, l₂) ∷ (laid K, l₃) ∷
-            (bytes-laid 1, l₄) ∷ (laid S, l₅) ∷ (laid T, l₆) ∷ []
+            (bytes_laid 1, l₄) ∷ (laid S, l₅) ∷ (laid T, l₆) ∷ []
 
         -- from where the locals are made: the locals, the last first, the tokens, and what the parameters own
         begins :
@@ -293,7 +293,7 @@ module _ {M : Type 1} {𝓤 : Ura M} (𝓛 : Logic 𝓤) (at_mem : Memory → SP
             pass1 ! (init ! 10 refl (tt, tt)) $
             pass1 ! (init ! 8 refl (typed 𝓛 K k k-is)) $
             pass1 ! (init ! 6 refl (typed 𝓛 K t t-is)) $
-            pass1 ! (init ! 4 refl (bytes-typed 𝓛 s 1 κ' s-is)) $
+            pass1 ! (init ! 4 refl (bytes_typed 𝓛 s 1 κ' s-is)) $
             pass0 ! $
             -- [room for _6; …; room for _5; …; _4; …; _3; …; _2; …; _1; …; room for _0; …; the tokens; what the
             -- parameters own]
@@ -328,7 +328,7 @@ module _ {M : Type 1} {𝓤 : Ura M} (𝓛 : Logic 𝓤) (at_mem : Memory → SP
             (agg !
             (and_then ! (loads-field ! 8 refl (sub ! 0 refl (whole !)))
             (and_then ! (loads-field ! 8 refl (sub ! 2 refl (whole !))) (no_more !))))
-            (local !) (init ! 18 refl (typed 𝓛 N (lentFrame r) (made r is))) $
+            (local !) (init ! 18 refl (typed 𝓛 N (lent_frame r) (made r is))) $
             -- the borrow is closed
             had ! T r.domain (part r is) $
             move ! (3 ∷ 0 ∷ 4 ∷ 5 ∷ 6 ∷ []) $ closes ! tt (row T) r.domain (vals T r.domain) b o $
@@ -356,8 +356,8 @@ module _ {M : Type 1} {𝓤 : Ura M} (𝓛 : Logic 𝓤) (at_mem : Memory → SP
     f-walks : Walks 𝓛 f.ended stayed (WpFn 𝓤 H C Λ code.function) clauses
     f-walks =
         walked 𝓛 f.ended stayed clauses (WpFn 𝓤 H C Λ code.function)
-        (λ κs. (mut_vals, rest-spells 1 κs.1.0))
-        (λ κs. (mut_Tells (named 0) κs.0 (row T), rest-tells 1 κs.1.0))
+        (λ κs. (mut_vals, rest_spells 1 κs.1.0))
+        (λ κs. (mut_Tells (named 0) κs.0 (row T), rest_tells 1 κs.1.0))
         (λ κs qs bounds a g are.
         via 𝓤 _ (fst∗ 𝓤 _ (emp 𝓤))
         (walk κs.0 κs.1.0 qs.0 qs.1.0 a.0.ref_ptr.0 a.0.ref_ptr.1 a.0.ghost_name a.0.now

@@ -3,18 +3,18 @@
 -- Assumes nothing.
 use mathlib.Core.Path.{◌≡◌, sym}
 use Rattle.master_follow.specs.declared.Follow.{Follow}
-use Rattle.master_follow.specs.Follow.{followOf}
-use Rattle.master_confirm.specs.Confirm.{confirmAs}
+use Rattle.master_follow.specs.Follow.{follow_of}
+use Rattle.master_confirm.specs.Confirm.{confirm_as}
 use borrow.Author.Rules.{rules}
 use Rattle.master_confirm.proofs.confirm.Statement.{statement}
 use Rattle.master_confirm.proofs.confirm.Tie as tie
 
-as-found :
-    (c : tie.After-follow-up) (f : Follow) → c.follow-up.result ≡ f → let a = c.before.before.args in
-    confirmAs (followOf a.domain.settings.confirmation_time a.domain.sending a.t a.counter a.room)
+as_found :
+    (c : tie.After-follow-up) (f : Follow) → c.follow_up.result ≡ f → let a = c.before.before.args in
+    confirm_as (follow_of a.domain.settings.confirmation_time a.domain.sending a.t a.counter a.room)
     a.domain a.counter
-    ≡ confirmAs f a.domain a.counter
-as-found c f e = rw (← c.follow-up.ensures, e)
+    ≡ confirm_as f a.domain a.counter
+as_found c f e = rw (← c.follow_up.ensures, e)
 
 follow-up-requires : tie.Need-follow-up-requires
 follow-up-requires c κs = search rules
@@ -29,12 +29,12 @@ protection-requires : tie.Need-protection-requires
 protection-requires c κs = search rules
 
 returns : tie.Need-returns
-returns c = sym (as-found c.before.before.before _ c.before.refusal.given.1)
+returns c = sym (as_found c.before.before.before _ c.before.refusal.given.1)
 
 returns-2 : tie.Need-returns-2
 returns-2 c =
     let at = c.before.before.before.before in
-    rw c.protection.ensures (sym (as-found at.before.before _ at.ovs.given.1))
+    rw c.protection.ensures (sym (as_found at.before.before _ at.ovs.given.1))
 
 pub confirm-spec : {M : Type 1} → statement M
 confirm-spec =

@@ -9,9 +9,9 @@ use borrow.Author.Rules.{rules}
 use Rattle.clock.specs.declared.reading.VirtualLocalTime.{VirtualLocalTime}
 use Rattle.clock.specs.declared.time.GlobalTime.{GlobalTime}
 use Rattle.clock.specs.Reading.{span_of}
-use Rattle.clock.specs.Over.{overOf}
-use Rattle.master_follow.specs.Follow.{whole_of, ovsOf}
-use Rattle.master_follow.proofs.Laws.{over, over-exact}
+use Rattle.clock.specs.Over.{over_of}
+use Rattle.master_follow.specs.Follow.{whole_of, ovs_of}
+use Rattle.master_follow.proofs.Laws.{over, over_exact}
 use Rattle.master_follow.proofs.follow_up.Statement.{statement}
 use Rattle.master_follow.proofs.follow_up.Tie as tie
 
@@ -28,24 +28,24 @@ confirmed :
 confirmed c = omega (arith, c.if1.false)
 
 -- it is at most C old
-in-time :
+in_time :
     (c : tie.Else2) → let told = c.before.before.before in
     let a = told.before.before.before.args in
     span_of (sent-at told) a.t ≤ a.confirmation-time
-in-time c = omega (arith, rw c.before.since.ensures at c.if2.false)
+in_time c = omega (arith, rw c.before.since.ensures at c.if2.false)
 
 -- and what comes over of its nanoseconds is the FUP's
-comes-over :
+comes_over :
     (c : tie.After-carried-over) → let told = c.before.before.before.before.before in
     let t = told.before.before.before.args.t in
-    c.carried-over.result ≡ over (ovsOf (time told) (sent-at told) t) (whole_of (time told) (sent-at told) t).1
-comes-over c =
+    c.carried-over.result ≡ over (ovs_of (time told) (sent-at told) t) (whole_of (time told) (sent-at told) t).1
+comes_over c =
     let young = c.before.before in
     let since = young.before in
     let told = since.before.before in
     c.carried-over.ensures
-    ∙ ap (overOf (time told).1) since.since.ensures
-    ∙ over-exact (time told) (sent-at told) _ (omega arith) (omega arith) (omega (arith, in-time young))
+    ∙ ap (over_of (time told).1) since.since.ensures
+    ∙ over_exact (time told) (sent-at told) _ (omega arith) (omega arith) (omega (arith, in_time young))
 
 enum_told : tie.Need-enum-told
 enum_told c = search rules
@@ -74,7 +74,7 @@ returns-3 c =
     rw (
       same.before.before.sending.given.1,
       eq-eqb _ _ (confirmed same),
-      le-leb _ _ (in-time c.before),
+      le-leb _ _ (in_time c.before),
       not-true same.before.before.before.before.args.room c.if3.true,
     )
 
@@ -97,9 +97,9 @@ returns-5 c =
     rw (
       same.before.before.sending.given.1,
       eq-eqb _ _ (confirmed same),
-      le-leb _ _ (in-time young),
+      le-leb _ _ (in_time young),
       not-false same.before.before.before.before.args.room c.before.if3.false,
-      comes-over c,
+      comes_over c,
     )
 
 returns-6 : tie.Need-returns-6

@@ -5,13 +5,13 @@ use Prim.Native.Nat.{◌≤◌, ◌<◌}
 use native.Mathlib.Omega.{arith}
 use borrow.Author.Tests.{le-leb, lt-leb}
 use borrow.Author.Rules.{rules}
-use Rattle.clock.specs.Time.{mostNanoseconds}
+use Rattle.clock.specs.Time.{most_nanoseconds}
 use Rattle.master_set.proofs.set_time.Statement.{statement}
 use Rattle.master_set.proofs.set_time.Tie as tie
 
 returns : tie.Need-returns
 returns c =
-    let above : mostNanoseconds < c.before.args.nanoseconds = omega (arith, c.if1.true) in
+    let above : most_nanoseconds < c.before.args.nanoseconds = omega (arith, c.if1.true) in
     rw (lt-leb _ _ above)
 
 new-requires : tie.Need-new-requires
@@ -24,7 +24,7 @@ returns-2 : tie.Need-returns-2
 returns-2 c =
     let made = c.before in
     let tested = made.before.before.before in
-    let within : tested.before.args.nanoseconds ≤ mostNanoseconds = omega (arith, tested.if1.false) in
+    let within : tested.before.args.nanoseconds ≤ most_nanoseconds = omega (arith, tested.if1.false) in
     rw (le-leb _ _ within, made.new.ensures, c.next-update.ensures)
 
 pub set-time-spec : {M : Type 1} → statement M

@@ -5,16 +5,16 @@ use Prim.Native.Nat.{ℕ}
 use mathlib.Core.Path.{sym, ap, ◌∙◌}
 use mathlib.Core.List.{List}
 use Rattle.promise.specs.Only.{OnlyOne}
-use Rattle.promise.proofs.Laws.{equation-only}
+use Rattle.promise.proofs.Laws.{equation_only}
 use Rattle.clock.specs.declared.reading.VirtualLocalTime.{VirtualLocalTime}
 use Rattle.node.specs.declared.Node.{Node}
 use Rattle.node.specs.declared.confirms.NodeConfirm.{NodeConfirm}
-use Rattle.node.specs.Confirm.{confirmedBytes, NodeConfirmedIn}
+use Rattle.node.specs.Confirm.{confirmed_bytes, NodeConfirmedIn}
 
-pub on-confirmation-only :
+pub on_confirmation_only :
     (n : Node) (domain : ℕ) (t : VirtualLocalTime) (counter : ℕ) (before : List ℕ) →
     OnlyOne (λ (r : NodeConfirm × List ℕ). NodeConfirmedIn n domain t counter before r.0 r.1)
-on-confirmation-only n domain t counter before x y p q =
-    let a = equation-only _ x.0 y.0 p.call q.call in
-    let b = p.bytes ∙ ap (λ (r : NodeConfirm). confirmedBytes r.answer n domain before) a ∙ sym q.bytes in
+on_confirmation_only n domain t counter before x y p q =
+    let a = equation_only _ x.0 y.0 p.call q.call in
+    let b = p.bytes ∙ ap (λ (r : NodeConfirm). confirmed_bytes r.answer n domain before) a ∙ sym q.bytes in
     λ i. (a i, b i)

@@ -5,21 +5,21 @@ use Prim.Native.Nat.{ℕ}
 use mathlib.Core.Path.{◌≡◌, sym, ap, ◌∙◌}
 use mathlib.Core.List.{List}
 use Rattle.promise.specs.Only.{OnlyOne}
-use Rattle.promise.proofs.Laws.{equation-only}
+use Rattle.promise.proofs.Laws.{equation_only}
 use Rattle.clock.specs.declared.reading.VirtualLocalTime.{VirtualLocalTime}
 use Rattle.node.specs.declared.Node.{Node}
 use Rattle.node.specs.declared.cycles.CycleAnswer.{CycleAnswer}
 use Rattle.node.specs.declared.cycles.NodeCycle.{NodeCycle}
-use Rattle.node.specs.CycleAnswer.{cycleNumber}
-use Rattle.node.specs.Cycle.{cycleBytes, CycledIn}
+use Rattle.node.specs.CycleAnswer.{cycle_number}
+use Rattle.node.specs.Cycle.{cycle_bytes, CycledIn}
 
-pub on-main-cycle-only :
+pub on_main_cycle_only :
     (n : Node) (t : VirtualLocalTime) (before : List ℕ) →
     OnlyOne (λ (r : NodeCycle × List ℕ). CycledIn n t before r.0 r.1)
-on-main-cycle-only n t before x y p q =
-    let a = equation-only _ x.0 y.0 p.call q.call in
-    let b = p.bytes ∙ ap (λ (r : NodeCycle). cycleBytes r.answer n t before) a ∙ sym q.bytes in
+on_main_cycle_only n t before x y p q =
+    let a = equation_only _ x.0 y.0 p.call q.call in
+    let b = p.bytes ∙ ap (λ (r : NodeCycle). cycle_bytes r.answer n t before) a ∙ sym q.bytes in
     λ i. (a i, b i)
 
-pub number-only : (answer : CycleAnswer) → OnlyOne (λ (r : ℕ). r ≡ cycleNumber answer)
-number-only answer = equation-only _
+pub number_only : (answer : CycleAnswer) → OnlyOne (λ (r : ℕ). r ≡ cycle_number answer)
+number_only answer = equation_only _

@@ -5,12 +5,12 @@ use Prim.Native.Nat.{ℕ}
 use mathlib.Core.Path.{◌≡◌}
 use mathlib.Core.List.{List}
 use Rattle.promise.specs.Only.{OnlyOne}
-use Rattle.promise.proofs.Laws.{equation-only}
+use Rattle.promise.proofs.Laws.{equation_only}
 use Rattle.clock.specs.declared.reading.VirtualLocalTime.{VirtualLocalTime}
 use Rattle.node.specs.declared.Node.{Node}
 use Rattle.node.specs.declared.frames.NodeFrame.{NodeFrame}
-use Rattle.node.specs.Frame.{nodeFrameOf}
+use Rattle.node.specs.Frame.{node_frame_of}
 
-pub on-frame-only :
-    (n : Node) (t : VirtualLocalTime) (bytes : List ℕ) → OnlyOne (λ (r : NodeFrame). r ≡ nodeFrameOf n t bytes)
-on-frame-only n t bytes = equation-only _
+pub on_frame_only :
+    (n : Node) (t : VirtualLocalTime) (bytes : List ℕ) → OnlyOne (λ (r : NodeFrame). r ≡ node_frame_of n t bytes)
+on_frame_only n t bytes = equation_only _

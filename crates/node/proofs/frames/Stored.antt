@@ -6,27 +6,27 @@ use Prim.Native.Nat.{ℕ, ◌%◌}
 use mathlib.Core.Path.{◌≡◌, ap, ◌∙◌}
 use mathlib.Core.List.{List}
 use Rattle.clock.specs.declared.reading.VirtualLocalTime.{VirtualLocalTime}
-use Rattle.frame_read.specs.Read.{namedDomain}
+use Rattle.frame_read.specs.Read.{named_domain}
 use Rattle.settings.specs.Node.{places}
 use Rattle.domain.specs.declared.Domain.{Domain}
-use Rattle.domain.specs.Records.{recordAt}
+use Rattle.domain.specs.Records.{record_at}
 use Rattle.call_frame.specs.declared.FrameCall.{FrameCall}
-use Rattle.call_frame.specs.FrameCall.{frameCallOf}
+use Rattle.call_frame.specs.FrameCall.{frame_call_of}
 use Rattle.node.specs.declared.Node.{Node}
-use Rattle.node.specs.Frame.{frameStored, nodeFrameOf}
+use Rattle.node.specs.Frame.{frame_stored, node_frame_of}
 
-pub call-stored :
+pub call_stored :
     (n : Node) (at : ℕ) (t : VirtualLocalTime) (bytes : List ℕ) {d : Domain} {call : FrameCall} →
-    d ≡ recordAt n.domains at → call ≡ frameCallOf d n.kept t bytes →
-    frameStored n at call ≡ frameStored n at (frameCallOf (recordAt n.domains at) n.kept t bytes)
-call-stored n at t bytes looked called =
-    ap (frameStored n at) (called ∙ ap (λ (x : Domain). frameCallOf x n.kept t bytes) looked)
+    d ≡ record_at n.domains at → call ≡ frame_call_of d n.kept t bytes →
+    frame_stored n at call ≡ frame_stored n at (frame_call_of (record_at n.domains at) n.kept t bytes)
+call_stored n at t bytes looked called =
+    ap (frame_stored n at) (called ∙ ap (λ (x : Domain). frame_call_of x n.kept t bytes) looked)
 
-pub frame-stored :
+pub frame_stored_lem :
     (n : Node) (t : VirtualLocalTime) (bytes : List ℕ) {named : ℕ} {d : Domain} {call : FrameCall} →
-    named ≡ namedDomain bytes → d ≡ recordAt n.domains (named % places) →
-    call ≡ frameCallOf d n.kept t bytes → frameStored n (named % places) call ≡ nodeFrameOf n t bytes
-frame-stored n t bytes {named} domain looked called =
-    call-stored n (named % places) t bytes looked called
+    named ≡ named_domain bytes → d ≡ record_at n.domains (named % places) →
+    call ≡ frame_call_of d n.kept t bytes → frame_stored n (named % places) call ≡ node_frame_of n t bytes
+frame_stored_lem n t bytes {named} domain looked called =
+    call_stored n (named % places) t bytes looked called
     ∙ ap (λ (i : ℕ).
-    frameStored n (i % places) (frameCallOf (recordAt n.domains (i % places)) n.kept t bytes)) domain
+    frame_stored n (i % places) (frame_call_of (record_at n.domains (i % places)) n.kept t bytes)) domain

@@ -13,13 +13,13 @@ use Rattle.settings.specs.declared.domain_settings.DomainSettings.{DomainSetting
 use Rattle.domain.specs.declared.Domain.{Domain}
 use Rattle.domain.specs.Fresh.{fresh_of}
 use Rattle.settings.specs.Node.{places}
-use Rattle.node.specs.New.{recordsOf}
+use Rattle.node.specs.New.{records_of}
 use Rattle.node.proofs.fresh_records.Statement.{statement}
 use Rattle.node.proofs.fresh_records.Tie as tie
 
 abbrev invariant-loop : tie.invariant-loop
 invariant-loop settings records₀ d₀ records d =
-    (d ≤ places) × (length records ≡ places) × (take d records ++ recordsOf d (drop d settings) ≡ recordsOf 0 settings)
+    (d ≤ places) × (length records ≡ places) × (take d records ++ records_of d (drop d settings) ≡ records_of 0 settings)
 
 abbrev decreases-loop : tie.decreases-loop
 decreases-loop settings records₀ d₀ records d = places - d
@@ -27,22 +27,22 @@ decreases-loop settings records₀ d₀ records d = places - d
 module _ (settings : List DomainSettings) (records : List Domain) (d : ℕ) (other : DomainSettings) (one : Domain)
     (more : d < length settings) (there : d < length records) (e : one ≡ fresh_of d (get_or settings d other)) where
   on :
-      take d records ++ recordsOf d (drop d settings) ≡ recordsOf 0 settings →
-      take (d + 1) (set records d one) ++ recordsOf (d + 1) (drop (d + 1) settings) ≡ recordsOf 0 settings
+      take d records ++ records_of d (drop d settings) ≡ records_of 0 settings →
+      take (d + 1) (set records d one) ++ records_of (d + 1) (drop (d + 1) settings) ≡ records_of 0 settings
   on before =
-      ap (λ (k : ℕ). take k (set records d one) ++ recordsOf (d + 1) (drop k settings)) (add-one d)
-      ∙ ap (λ (l : List Domain). l ++ recordsOf (d + 1) (drop (suc d) settings)) (take-suc-set records d one there)
-      ∙ append_snoc (take d records) one (recordsOf (d + 1) (drop (suc d) settings))
-      ∙ ap (λ (x : Domain). take d records ++ x ∷ recordsOf (d + 1) (drop (suc d) settings)) e
-      ∙ sym (ap (λ (l : List DomainSettings). take d records ++ recordsOf d l) (drop-cons settings d other more))
+      ap (λ (k : ℕ). take k (set records d one) ++ records_of (d + 1) (drop k settings)) (add-one d)
+      ∙ ap (λ (l : List Domain). l ++ records_of (d + 1) (drop (suc d) settings)) (take-suc-set records d one there)
+      ∙ append_snoc (take d records) one (records_of (d + 1) (drop (suc d) settings))
+      ∙ ap (λ (x : Domain). take d records ++ x ∷ records_of (d + 1) (drop (suc d) settings)) e
+      ∙ sym (ap (λ (l : List DomainSettings). take d records ++ records_of d l) (drop-cons settings d other more))
       ∙ before
 
 all :
     (settings : List DomainSettings) (records : List Domain) (d : ℕ) → length records ≤ d → length settings ≤ d →
-    take d records ++ recordsOf d (drop d settings) ≡ recordsOf 0 settings → records ≡ recordsOf 0 settings
+    take d records ++ records_of d (drop d settings) ≡ records_of 0 settings → records ≡ records_of 0 settings
 all settings records d h k e =
     sym (take_all d records h) ∙ sym (append-nil (take d records))
-    ∙ sym (ap (λ (l : List DomainSettings). take d records ++ recordsOf d l) (drop_of_length-le settings k)) ∙ e
+    ∙ sym (ap (λ (l : List DomainSettings). take d records ++ records_of d l) (drop_of_length-le settings k)) ∙ e
 
 long : (c : tie.Start invariant-loop decreases-loop) → length c.args.t1 ≡ places
 long c = c.well-formed.0.1.0.1

@@ -4,12 +4,12 @@
 use Prim.Native.Nat.{ℕ}
 use mathlib.Core.Path.{◌≡◌}
 use Rattle.promise.specs.Only.{OnlyOne}
-use Rattle.promise.proofs.Laws.{equation-only}
+use Rattle.promise.proofs.Laws.{equation_only}
 use Rattle.clock.specs.declared.reading.VirtualLocalTime.{VirtualLocalTime}
 use Rattle.call_read.specs.declared.ReadAnswer.{ReadAnswer}
 use Rattle.node.specs.declared.Node.{Node}
-use Rattle.node.specs.Read.{nodeReadOf}
+use Rattle.node.specs.Read.{node_read_of}
 
-pub on-read-only :
-    (n : Node) (domain : ℕ) (t : VirtualLocalTime) → OnlyOne (λ (r : ReadAnswer). r ≡ nodeReadOf n domain t)
-on-read-only n domain t = equation-only _
+pub on_read_only :
+    (n : Node) (domain : ℕ) (t : VirtualLocalTime) → OnlyOne (λ (r : ReadAnswer). r ≡ node_read_of n domain t)
+on_read_only n domain t = equation_only _

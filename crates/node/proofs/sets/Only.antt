@@ -4,13 +4,13 @@
 use Prim.Native.Nat.{ℕ}
 use mathlib.Core.Path.{◌≡◌}
 use Rattle.promise.specs.Only.{OnlyOne}
-use Rattle.promise.proofs.Laws.{equation-only}
+use Rattle.promise.proofs.Laws.{equation_only}
 use Rattle.clock.specs.declared.reading.VirtualLocalTime.{VirtualLocalTime}
 use Rattle.node.specs.declared.Node.{Node}
 use Rattle.node.specs.declared.sets.NodeSet.{NodeSet}
-use Rattle.node.specs.Set.{nodeSetOf}
+use Rattle.node.specs.Set.{node_set_of}
 
-pub on-set-only :
+pub on_set_only :
     (n : Node) (domain : ℕ) (t : VirtualLocalTime) (s ns : ℕ) →
-    OnlyOne (λ (r : NodeSet). r ≡ nodeSetOf n domain t s ns)
-on-set-only n domain t s ns = equation-only _
+    OnlyOne (λ (r : NodeSet). r ≡ node_set_of n domain t s ns)
+on_set_only n domain t s ns = equation_only _

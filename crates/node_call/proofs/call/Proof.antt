@@ -7,9 +7,9 @@ use borrow.Author.Rules.{rules}
 use Rattle.clock.specs.declared.reading.VirtualLocalTime.{VirtualLocalTime}
 use Rattle.node.specs.declared.Node.{Node}
 use Rattle.node.specs.declared.cycles.NodeCycle.{NodeCycle}
-use Rattle.node.specs.Cycle.{cycleBytes, CycledIn}
+use Rattle.node.specs.Cycle.{cycle_bytes, CycledIn}
 use Rattle.node.specs.declared.confirms.NodeConfirm.{NodeConfirm}
-use Rattle.node.specs.Confirm.{confirmedBytes, NodeConfirmedIn}
+use Rattle.node.specs.Confirm.{confirmed_bytes, NodeConfirmedIn}
 use Rattle.node_call.specs.declared.Request.{Request}
 use Rattle.node_call.specs.declared.Request.TheVariants as asked
 use Rattle.node_call.specs.declared.CallAnswer.TheVariants.{Frame, Read, Set, Cycle, Confirm}
@@ -32,7 +32,7 @@ cycled {n} {t} given {before} told =
     record {
       answer = ap (λ s. Cycle s.answer) told.call;
       node = ap (λ s. s.node) told.call;
-      bytes = told.bytes ∙ ap (λ s. cycleBytes s.answer n t before) told.call;
+      bytes = told.bytes ∙ ap (λ s. cycle_bytes s.answer n t before) told.call;
     }
 
 confirmed :
@@ -45,7 +45,7 @@ confirmed {n} {domain} given {before} told =
     record {
       answer = ap (λ s. Confirm s.answer) told.call;
       node = ap (λ s. s.node) told.call;
-      bytes = told.bytes ∙ ap (λ s. confirmedBytes s.answer n domain before) told.call;
+      bytes = told.bytes ∙ ap (λ s. confirmed_bytes s.answer n domain before) told.call;
     }
 
 enum-known-request : tie.Need-enum-known-request

@@ -8,15 +8,15 @@ use lib.ListN.{length, get_or, take, drop, length-set}
 use borrow.Author.Rules.{rules}
 use Rattle.promise.proofs.Lists.{get_d_any}
 use Rattle.settings.specs.Node.{places}
-use Rattle.slave_answer.specs.Answer.{frameNumber}
+use Rattle.slave_answer.specs.Answer.{frame_number}
 use Rattle.node.specs.declared.frames.NodeFrame.{NodeFrame}
-use Rattle.node.specs.Frame.{nodeFrameOf}
+use Rattle.node.specs.Frame.{node_frame_of}
 use Rattle.node.proofs.Sixteen.{sixteen}
-use Rattle.node.proofs.frames.Stored.{frame-stored}
+use Rattle.node.proofs.frames.Stored.{frame_stored_lem}
 use Rattle.node_queue.specs.declared.QueueAnswer.TheVariants.{Taken}
-use Rattle.node_queue.specs.Queue.{queueNode, queueBytes}
-use Rattle.node_queue.proofs.Taken.{is-taken}
-use Rattle.node_queue.proofs.Rest.{Rest, onward, at-end}
+use Rattle.node_queue.specs.Queue.{queue_node, queue_bytes}
+use Rattle.node_queue.proofs.Taken.{is_taken_lem}
+use Rattle.node_queue.proofs.Rest.{Rest, onward, at_end}
 use Rattle.node_queue.proofs.on_queue.Statement.{statement}
 use Rattle.node_queue.proofs.on_queue.Tie as tie
 
@@ -24,7 +24,7 @@ abbrev invariant-loop : tie.invariant-loop
 invariant-loop readings frames answers₀ node₀ i₀ answers node i =
     (i ≤ length readings) × (length readings ≤ 32) × (length frames ≡ 8 * length readings)
     × (length readings ≤ length answers₀) × (length answers ≡ length answers₀) × (length node.domains ≡ places)
-    × Rest (queueNode Taken node₀ readings frames) (queueBytes Taken node₀ readings frames answers₀) readings frames i
+    × Rest (queue_node Taken node₀ readings frames) (queue_bytes Taken node₀ readings frames answers₀) readings frames i
     node answers
 
 abbrev decreases-loop : tie.decreases-loop
@@ -51,7 +51,7 @@ loop-holds c =
     let entry = judged.before.before.before.before in
     let a = entry.args in
     let told =
-    is-taken (length a.readings.now) (length a.frames.now) (length a.answers.now)
+    is_taken_lem (length a.readings.now) (length a.frames.now) (length a.answers.now)
     (sym judged.judge.ensures ∙ c.enum_told.given.1)
     in (
       omega arith,
@@ -131,13 +131,13 @@ loop-again c =
     let inv = turn.loop.invariant in
     let eight : 8 * i + 8 - 8 * i ≡ 8 = omega arith in
     let stored =
-    frame-stored n (record { 0 = get_or a.readings.now i 0 })
+    frame_stored_lem n (record { 0 = get_or a.readings.now i 0 })
     (take (8 * i + 8 - 8 * i) (drop (8 * i) a.frames.now))
     named.named-domain.ensures
     (get_d_any n.domains _ _ _ (omega (arith, inv.5)))
     called.frame-call.ensures
     ∙ ap (λ (k : ℕ).
-    nodeFrameOf n (record { 0 = get_or a.readings.now i 0 }) (take k (drop (8 * i) a.frames.now))) eight
+    node_frame_of n (record { 0 = get_or a.readings.now i 0 }) (take k (drop (8 * i) a.frames.now))) eight
     in (
       omega arith,
       inv.1,
@@ -147,7 +147,7 @@ loop-again c =
       simp length-set inv.5,
       onward _ _ _ _ _ _ _ _ _ (omega arith) (omega arith)
           (ap (λ (r : NodeFrame). r.node) stored)
-          (c.number.ensures ∙ ap (λ (r : NodeFrame). frameNumber r.answer) stored)
+          (c.number.ensures ∙ ap (λ (r : NodeFrame). frame_number r.answer) stored)
           inv.6,
     )
 
@@ -158,7 +158,7 @@ returns-2 : tie.Need-returns-2 invariant-loop decreases-loop
 returns-2 c =
     let told = c.before.before in
     let judged = told.before.before in
-    at-end _ _ _ _ _ _ _ (omega arith)
+    at_end _ _ _ _ _ _ _ (omega arith)
     (sym told.enum_told.given.1 ∙ judged.judge.ensures)
     c.before.loop.invariant.6
 

@@ -12,15 +12,15 @@ use Rattle.promise.proofs.Lists.{get_d_any}
 use Rattle.clock.specs.declared.reading.VirtualLocalTime.{VirtualLocalTime}
 use Rattle.settings.specs.Node.{places}
 use Rattle.domain.specs.declared.Domain.{Domain}
-use Rattle.round.specs.Round.{Gone, roundOf}
-use Rattle.round.proofs.Rest.{sent-least, Rest, onward, at-end}
+use Rattle.round.specs.Round.{Gone, round_of}
+use Rattle.round.proofs.Rest.{sent_least, Rest, onward, at_end}
 use Rattle.round.proofs.go_round.Statement.{statement}
 use Rattle.round.proofs.go_round.Tie as tie
 
 abbrev invariant-loop : tie.invariant-loop
 invariant-loop first t most out₀ records₀ at₀ next₀ sent₀ turns₀ out records at next sent turns =
     (turns ≤ places) × (at < places) × (sent ≤ turns) × (length records ≡ places) × (length out ≡ length out₀)
-    × Rest (roundOf records₀ first t most) out₀ most t (places - turns) at sent records next out
+    × Rest (round_of records₀ first t most) out₀ most t (places - turns) at sent records next out
 
 abbrev decreases-loop : tie.decreases-loop
 decreases-loop first t most out₀ records₀ at₀ next₀ sent₀ turns₀ out records at next sent turns = places - turns
@@ -86,7 +86,7 @@ loop-again c =
     let inv = now-at.loop.invariant in (
       omega arith,
       omega arith,
-      omega (arith, put.put.ensures.count, sent-least turn.turn.result.answer now-at.loop.sent),
+      omega (arith, put.put.ensures.count, sent_least turn.turn.result.answer now-at.loop.sent),
       simp length-set inv.3,
       c.before.before.out.given ∙ inv.4,
       onward _ _ _ _ _ _ _ _ _ _ _ _ _ _ _ _
@@ -103,7 +103,7 @@ same_length : tie.Need-same-length invariant-loop decreases-loop
 same_length c = c.before.loop.invariant.4
 
 returns : tie.Need-returns invariant-loop decreases-loop
-returns c = at-end _ _ _ _ _ _ _ _ _ _ (left_is c.before.loop.invariant.5 (omega arith))
+returns c = at_end _ _ _ _ _ _ _ _ _ _ (left_is c.before.loop.invariant.5 (omega arith))
 
 pub go-round-spec : {M : Type 1} → statement M
 go-round-spec =

@@ -4,13 +4,13 @@
 use Prim.Native.Nat.{ℕ}
 use mathlib.Core.Path.{◌≡◌}
 use Rattle.promise.specs.Only.{OnlyOne}
-use Rattle.promise.proofs.Laws.{equation-only}
+use Rattle.promise.proofs.Laws.{equation_only}
 use Rattle.settings.specs.declared.node_settings.NodeSettings.{NodeSettings}
 use Rattle.settings.specs.declared.node_settings.Verdict.{Verdict}
-use Rattle.settings.specs.Node.{verdictNumber, judgedOf}
+use Rattle.settings.specs.Node.{verdict_number, judged_of}
 
-pub judge-only : (n : NodeSettings) → OnlyOne (λ (r : Verdict). r ≡ judgedOf n)
-judge-only n = equation-only _
+pub judge_only : (n : NodeSettings) → OnlyOne (λ (r : Verdict). r ≡ judged_of n)
+judge_only n = equation_only _
 
-pub number-only : (verdict : Verdict) → OnlyOne (λ (r : ℕ). r ≡ verdictNumber verdict)
-number-only verdict = equation-only _
+pub number_only : (verdict : Verdict) → OnlyOne (λ (r : ℕ). r ≡ verdict_number verdict)
+number_only verdict = equation_only _

@@ -12,16 +12,16 @@ use Rattle.promise.proofs.Tests.{both}
 use Rattle.settings.specs.declared.domain_settings.DomainSettings.{DomainSettings}
 use Rattle.settings.specs.declared.domain_settings.Role.{Role}
 use Rattle.settings.specs.declared.domain_settings.Role.TheVariants.{Absent, Slave, Master}
-use Rattle.settings.specs.Domain.{heldAs, held_of}
-use Rattle.settings.specs.Ranges.{isGood, leapsGood, slaveGood, masterGood, isGoodAs}
+use Rattle.settings.specs.Domain.{held_as, held_of}
+use Rattle.settings.specs.Ranges.{is_good, leaps_good, slave_good, master_good, is_good_as}
 
-good-as : (r : Role) (s : DomainSettings) → isGood (heldAs r s) ≡ isGoodAs r s
-good-as Absent s = refl
-good-as Slave s = refl
-good-as Master s = refl
+good_as : (r : Role) (s : DomainSettings) → is_good (held_as r s) ≡ is_good_as r s
+good_as Absent s = refl
+good_as Slave s = refl
+good_as Master s = refl
 
-pub held-good : (s : DomainSettings) → isGood (held_of s) ≡ isGood s
-held-good s = good-as s.role s
+pub held_good : (s : DomainSettings) → is_good (held_of s) ≡ is_good s
+held_good s = good_as s.role s
 
 -- ---- what the conjunctions say
 
@@ -42,8 +42,8 @@ pub record MasterRange (s : DomainSettings) : Type 0 where
   pub confirmation : (1 ≤ s.confirmation_time) × (s.confirmation_time ≤ 3000000000)
   pub below : s.confirmation_time < s.period
 
-pub leaps-range : (s : DomainSettings) → leapsGood s ≡ true → LeapsRange s
-leaps-range s e =
+pub leaps_range : (s : DomainSettings) → leaps_good s ≡ true → LeapsRange s
+leaps_range s e =
     let p₂ = both _ _ e in
     let p = both _ _ p₂.0 in
     let c = both _ _ p₂.1 in
@@ -53,8 +53,8 @@ leaps-range s e =
       count = (leb-true _ _ c.0, leb-true _ _ c.1);
     }
 
-pub slave-range : (s : DomainSettings) → slaveGood s ≡ true → SlaveRange s
-slave-range s e =
+pub slave_range : (s : DomainSettings) → slave_good s ≡ true → SlaveRange s
+slave_range s e =
     let p₆ = both _ _ e in
     let p₅ = both _ _ p₆.0 in
     let p₄ = both _ _ p₅.0 in
@@ -67,11 +67,11 @@ slave-range s e =
       hysteresis = leb-true _ _ p₂.1;
       follow = (leb-true _ _ f.0, leb-true _ _ f.1);
       loss = (ltb-true _ _ p₄.1, leb-true _ _ p₅.1);
-      leaps = leaps-range s p₆.1;
+      leaps = leaps_range s p₆.1;
     }
 
-pub master-range : (s : DomainSettings) → masterGood s ≡ true → MasterRange s
-master-range s e =
+pub master_range : (s : DomainSettings) → master_good s ≡ true → MasterRange s
+master_range s e =
     let p₃ = both _ _ e in
     let p₂ = both _ _ p₃.0 in
     let p = both _ _ p₂.0 in

@@ -3,9 +3,9 @@
 use mathlib.Core.Path.{◌≡◌}
 use mathlib.Core.Bool.{Bool}
 use Rattle.promise.specs.Only.{OnlyOne}
-use Rattle.promise.proofs.Laws.{equation-only}
+use Rattle.promise.proofs.Laws.{equation_only}
 use Rattle.settings.specs.declared.domain_settings.DomainSettings.{DomainSettings}
-use Rattle.settings.specs.Ranges.{isGood}
+use Rattle.settings.specs.Ranges.{is_good}
 
-pub is-good-only : (s : DomainSettings) → OnlyOne (λ (r : Bool). r ≡ isGood s)
-is-good-only s = equation-only _
+pub is_good_only : (s : DomainSettings) → OnlyOne (λ (r : Bool). r ≡ is_good s)
+is_good_only s = equation_only _

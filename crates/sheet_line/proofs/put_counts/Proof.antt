@@ -6,15 +6,15 @@ use native.Mathlib.Numerals.{add-one}
 use native.Mathlib.Omega.{arith}
 use lib.ListN.{length, drop, drop_of_length-le}
 use lib.Seq.{drop-cons}
-use Rattle.text.proofs.Laws.{Left, begun, turn, ended, length-kept}
+use Rattle.text.proofs.Laws.{Left, begun, turn, ended, length_kept}
 use Rattle.sheet_tally.specs.Tally.{columns}
-use Rattle.sheet_line.specs.Line.{countsText}
+use Rattle.sheet_line.specs.Line.{counts_text}
 use Rattle.sheet_line.proofs.put_counts.Statement.{statement}
 use Rattle.sheet_line.proofs.put_counts.Tie as tie
 
 abbrev invariant-loop : tie.invariant-loop
 invariant-loop out₀ at counts place₀ column₀ out place column =
-    Left (countsText (drop column counts)) place out (countsText counts) at out₀
+    Left (counts_text (drop column counts)) place out (counts_text counts) at out₀
     × (column ≤ columns)
 
 abbrev decreases-loop : tie.decreases-loop
@@ -47,7 +47,7 @@ loop-again c =
     let start = at-loop.before.before in
     let counts = start.args.t3 in
     let i = at-loop.loop.column in
-    let split = ap countsText (drop-cons counts i 0 (omega (arith, long start))) in (
+    let split = ap counts_text (drop-cons counts i 0 (omega (arith, long start))) in (
       rw (add-one i) (turn split c.before.before.put-plain.ensures at-loop.loop.invariant.0),
       omega arith,
     )
@@ -57,11 +57,11 @@ returns c =
     let at-loop = c.before in
     let start = at-loop.before.before in
     ended
-    (ap countsText (drop_of_length-le start.args.t3 {i = at-loop.loop.column} (omega (arith, long start))))
+    (ap counts_text (drop_of_length-le start.args.t3 {i = at-loop.loop.column} (omega (arith, long start))))
     at-loop.loop.invariant.0
 
 same_length : tie.Need-same-length invariant-loop decreases-loop
-same_length c = length-kept (returns c)
+same_length c = length_kept (returns c)
 
 pub put-counts-spec : {M : Type 1} → statement M
 put-counts-spec =

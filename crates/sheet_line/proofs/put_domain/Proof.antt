@@ -2,7 +2,7 @@
 use mathlib.Core.Path.{sym, ap}
 use borrow.Author.Rules.{rules}
 use Rattle.text.proofs.Laws.{named, nothing}
-use Rattle.sheet_line.specs.Line.{domainText}
+use Rattle.sheet_line.specs.Line.{domain_text}
 use Rattle.sheet_line.proofs.put_domain.Statement.{statement}
 use Rattle.sheet_line.proofs.put_domain.Tie as tie
 
@@ -22,7 +22,7 @@ returns : tie.Need-returns
 returns c =
     let start = c.before.before.before in
     let role = sym c.enum_told.given.1 in
-    named (ap (λ r. domainText start.args.domain r start.args.tally) role) nothing
+    named (ap (λ r. domain_text start.args.domain r start.args.tally) role) nothing
 
 same_length : tie.Need-same-length
 same_length c = search rules
@@ -33,13 +33,13 @@ returns-2 c =
     let arm = called.before.before in
     let start = arm.before.before.before in
     let role = sym arm.enum-told2.given.1 in
-    named (ap (λ r. domainText start.args.domain r start.args.tally) role) called.put-line.ensures
+    named (ap (λ r. domain_text start.args.domain r start.args.tally) role) called.put-line.ensures
 
 returns-3 : tie.Need-returns-3
 returns-3 c =
     let start = c.before.before.before in
     let role = sym c.enum-told3.given.1 in
-    named (ap (λ r. domainText start.args.domain r start.args.tally) role) nothing
+    named (ap (λ r. domain_text start.args.domain r start.args.tally) role) nothing
 
 pub put-domain-spec : {M : Type 1} → statement M
 put-domain-spec =

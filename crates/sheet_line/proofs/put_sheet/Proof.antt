@@ -3,18 +3,18 @@
 use Prim.Native.Nat.{◌-◌, ◌≤◌, ◌<◌}
 use native.Mathlib.Omega.{arith}
 use borrow.Author.Rules.{rules}
-use Rattle.text.proofs.Laws.{then, Left, begun, turn, ended, length-kept}
+use Rattle.text.proofs.Laws.{then, Left, begun, turn, ended, length_kept}
 use Rattle.settings.specs.Node.{places}
 use Rattle.node.proofs.Sixteen as node_laws
 use Rattle.sheet_tally.proofs.sheet.Sixteen as sheet-laws
-use Rattle.sheet_line.specs.Line.{slavesText}
+use Rattle.sheet_line.specs.Line.{slaves_text}
 use Rattle.sheet_line.proofs.Slaves.{one_more, no_more}
 use Rattle.sheet_line.proofs.put_sheet.Statement.{statement}
 use Rattle.sheet_line.proofs.put_sheet.Tie as tie
 
 abbrev invariant-loop : tie.invariant-loop
 invariant-loop out₀ at node sheet place₀ d₀ out place d =
-    Left (slavesText (places - d) d node sheet) place out (slavesText places 0 node sheet) at out₀
+    Left (slaves_text (places - d) d node sheet) place out (slaves_text places 0 node sheet) at out₀
     × (d ≤ places)
 
 abbrev decreases-loop : tie.decreases-loop
@@ -56,8 +56,8 @@ loop-again c =
     let s = start.args.t4 in
     let d = at-loop.loop.d in
     let h : d < places = omega arith in
-    let one = node_laws.looked-up n _ start.well-formed.1.1.0 d _ h in
-    let tally = sheet-laws.looked-up s _ start.well-formed.1.1.1.0 d _ h in (
+    let one = node_laws.looked_up n _ start.well-formed.1.1.0 d _ h in
+    let tally = sheet-laws.looked_up s _ start.well-formed.1.1.1.0 d _ h in (
       turn (one_more n s d h one tally) called.put-domain.ensures at-loop.loop.invariant.0,
       omega arith,
     )
@@ -75,7 +75,7 @@ returns c =
     called.put_other.ensures
 
 same_length : tie.Need-same-length invariant-loop decreases-loop
-same_length c = length-kept (returns c)
+same_length c = length_kept (returns c)
 
 pub put-sheet-spec : {M : Type 1} → statement M
 put-sheet-spec =

@@ -5,8 +5,8 @@ use mir.Val.{SFits}
 use mir.ValLaws.{to_z-of_z}
 use borrow.Author.Rules.{rules}
 use Rattle.text.proofs.Laws.{then, named}
-use Rattle.sheet_line.specs.Signed.{signedText, toldText}
-use Rattle.sheet_line.specs.Line.{spreadText}
+use Rattle.sheet_line.specs.Signed.{signed_text, told_text}
+use Rattle.sheet_line.specs.Line.{spread_text}
 use Rattle.sheet_line.proofs.put_spread.Statement.{statement}
 use Rattle.sheet_line.proofs.put_spread.Tie as tie
 
@@ -42,7 +42,7 @@ returns c =
     let called = c.before.before in
     let arm = called.before.before.before in
     let sum = arm.before.before.before.args.sum in
-    named (ap (λ s. spreadText s sum) (sym arm.enum_told.given.1)) called.put-bytes.ensures
+    named (ap (λ s. spread_text s sum) (sym arm.enum_told.given.1)) called.put-bytes.ensures
 
 same-length-2 : tie.Need-same-length-2
 same-length-2 c = search rules
@@ -65,12 +65,12 @@ returns-2 c =
     let least = to_z-of_z w64 arm.spread.given.0.0 (least_fits known) in
     let greatest = to_z-of_z w64 arm.spread.given.0.1.0 (greatest-fits known) in
     named
-    (ap (λ s. spreadText s sum) (sym arm.spread.given.1))
+    (ap (λ s. spread_text s sum) (sym arm.spread.given.1))
     (then
     (then
-    (named (ap signedText least) first.put-signed.ensures)
-    (named (ap signedText greatest) second.put-signed2.ensures))
-    (named (ap toldText told.told.ensures) last.put-told.ensures))
+    (named (ap signed_text least) first.put-signed.ensures)
+    (named (ap signed_text greatest) second.put-signed2.ensures))
+    (named (ap told_text told.told.ensures) last.put-told.ensures))
 
 pub put-spread-spec : {M : Type 1} → statement M
 put-spread-spec =

@@ -6,21 +6,21 @@ use mathlib.Core.List.{List}
 use lib.IntN.{ℤ}
 use Rattle.promise.specs.Only.{OnlyOne}
 use Rattle.text.specs.Text.{Puts}
-use Rattle.text.proofs.Only.{puts-only}
+use Rattle.text.proofs.Only.{puts_only}
 use Rattle.sheet_sum.specs.declared.Told.{Told}
-use Rattle.sheet_line.specs.Signed.{plainText, signedText, toldText}
+use Rattle.sheet_line.specs.Signed.{plain_text, signed_text, told_text}
 
-pub put-plain-only :
+pub put_plain_only :
     (n : ℕ) (at : ℕ) (before : List ℕ) →
-    OnlyOne (λ (r : ℕ × List ℕ). Puts (plainText n) at before r.0 r.1)
-put-plain-only n = puts-only (plainText n)
+    OnlyOne (λ (r : ℕ × List ℕ). Puts (plain_text n) at before r.0 r.1)
+put_plain_only n = puts_only (plain_text n)
 
-pub put-signed-only :
+pub put_signed_only :
     (d : ℤ) (at : ℕ) (before : List ℕ) →
-    OnlyOne (λ (r : ℕ × List ℕ). Puts (signedText d) at before r.0 r.1)
-put-signed-only d = puts-only (signedText d)
+    OnlyOne (λ (r : ℕ × List ℕ). Puts (signed_text d) at before r.0 r.1)
+put_signed_only d = puts_only (signed_text d)
 
-pub put-told-only :
+pub put_told_only :
     (told : Told) (at : ℕ) (before : List ℕ) →
-    OnlyOne (λ (r : ℕ × List ℕ). Puts (toldText told) at before r.0 r.1)
-put-told-only told = puts-only (toldText told)
+    OnlyOne (λ (r : ℕ × List ℕ). Puts (told_text told) at before r.0 r.1)
+put_told_only told = puts_only (told_text told)

@@ -4,14 +4,14 @@ use Prim.Native.Nat.{ℕ}
 use mathlib.Core.Path.{◌≡◌, ap, ◌∙◌}
 use mathlib.Core.List.{List}
 use borrow.Author.Rules.{rules}
-use Rattle.text.specs.Pieces.{nextItem}
+use Rattle.text.specs.Pieces.{next_item}
 use Rattle.bench_record.specs.Record.{lent}
 use Rattle.node_call.specs.declared.Request.{Request}
 use Rattle.node_call.specs.declared.Called.{Called}
 use Rattle.node_call.specs.Called.{CalledIn}
 use Rattle.sheet_tally.specs.declared.sheet.Sheet.{Sheet}
-use Rattle.sheet_tally.specs.Entry.{entryOf}
-use Rattle.sheet_tally.specs.Sheet.{sheetWith}
+use Rattle.sheet_tally.specs.Entry.{entry_of}
+use Rattle.sheet_tally.specs.Sheet.{sheet_with}
 use Rattle.sheet_step.specs.declared.Account.{Account}
 use Rattle.sheet_step.specs.Account.{called}
 use Rattle.sheet_step.proofs.answered.Statement.{statement}
@@ -41,10 +41,10 @@ next-item-requires c κs = search rules
 -- what the call ensures, with its answer counted
 counted :
     (a : Account) (q : Request) (payload : List ℕ) {r : Called} {sent : List ℕ} {s : Sheet} {k : ℕ} →
-    CalledIn a.node q payload lent r sent → s ≡ sheetWith a.sheet (entryOf r.answer payload) →
-    k ≡ nextItem a.records → record { node = r.node; sheet = s; records = k; bad = a.bad } ≡ called a q payload
-counted a q payload told with-one one_more =
-    let sheet = with-one ∙ ap (λ x. sheetWith a.sheet (entryOf x payload)) told.answer in
+    CalledIn a.node q payload lent r sent → s ≡ sheet_with a.sheet (entry_of r.answer payload) →
+    k ≡ next_item a.records → record { node = r.node; sheet = s; records = k; bad = a.bad } ≡ called a q payload
+counted a q payload told with_one one_more =
+    let sheet = with_one ∙ ap (λ x. sheet_with a.sheet (entry_of x payload)) told.answer in
     λ i. record { node = told.node i; sheet = sheet i; records = one_more i; bad = a.bad }
 
 returns : tie.Need-returns
@@ -53,7 +53,7 @@ returns c =
     let calling = entry.before.before.before.before in
     let a = calling.before.before.before.before.before.args in
     counted a.account a.request a.t3 calling.call.ensures
-    (c.before.with.ensures ∙ ap (sheetWith a.account.sheet) entry.entry_of.ensures)
+    (c.before.with.ensures ∙ ap (sheet_with a.account.sheet) entry.entry_of.ensures)
     c.next-item.ensures
 
 pub answered-spec : {M : Type 1} → statement M

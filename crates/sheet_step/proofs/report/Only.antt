@@ -4,11 +4,11 @@ use Prim.Native.Nat.{ℕ}
 use mathlib.Core.List.{List}
 use Rattle.promise.specs.Only.{OnlyOne}
 use Rattle.text.specs.Text.{Puts}
-use Rattle.text.proofs.Only.{puts-only}
+use Rattle.text.proofs.Only.{puts_only}
 use Rattle.sheet_step.specs.declared.Account.{Account}
-use Rattle.sheet_step.specs.Report.{reportText}
+use Rattle.sheet_step.specs.Report.{report_text}
 
-pub put-report-only :
+pub put_report_only :
     (a : Account) (left at : ℕ) (before : List ℕ) →
-    OnlyOne (λ (r : ℕ × List ℕ). Puts (reportText a left) at before r.0 r.1)
-put-report-only a left = puts-only (reportText a left)
+    OnlyOne (λ (r : ℕ × List ℕ). Puts (report_text a left) at before r.0 r.1)
+put_report_only a left = puts_only (report_text a left)

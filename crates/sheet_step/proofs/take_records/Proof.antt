@@ -6,15 +6,15 @@ use native.Mathlib.Omega.{arith}
 use lib.ListN.{length, drop}
 use borrow.Author.Rules.{rules}
 use Rattle.sheet_step.specs.declared.Account.{Account}
-use Rattle.sheet_step.specs.Account.{afterRecords}
-use Rattle.sheet_step.proofs.Records.{whole_of, one_on, at-end}
+use Rattle.sheet_step.specs.Account.{after_records}
+use Rattle.sheet_step.proofs.Records.{whole_of, one_on, at_end}
 use Rattle.sheet_step.proofs.take_records.Statement.{statement}
 use Rattle.sheet_step.proofs.take_records.Tie as tie
 
 abbrev invariant-loop : tie.invariant-loop
 invariant-loop bytes next₀ at₀ next at =
     (at ≤ length bytes) ×
-    (afterRecords next (whole_of (drop at bytes)) ≡ afterRecords next₀ (whole_of bytes))
+    (after_records next (whole_of (drop at bytes)) ≡ after_records next₀ (whole_of bytes))
 
 abbrev decreases-loop : tie.decreases-loop
 decreases-loop bytes next₀ at₀ next at = length bytes - at
@@ -51,7 +51,7 @@ loop-again c =
     let loop = c.before.before.before.loop in
     let bytes = c.before.before.before.before.before.args.bytes.now in (
       omega arith,
-      ap (λ (a : Account). afterRecords a (whole_of (drop (loop.at + 20) bytes))) c.take-record.ensures
+      ap (λ (a : Account). after_records a (whole_of (drop (loop.at + 20) bytes))) c.take-record.ensures
           ∙ sym (one_on loop.next bytes loop.at (omega arith))
           ∙ loop.invariant.1,
     )
@@ -59,7 +59,7 @@ loop-again c =
 returns : tie.Need-returns invariant-loop decreases-loop
 returns c =
     let bytes = c.before.before.before.args.bytes.now in
-    sym (at-end c.before.loop.next bytes c.before.loop.at (omega arith)) ∙ c.before.loop.invariant.1
+    sym (at_end c.before.loop.next bytes c.before.loop.at (omega arith)) ∙ c.before.loop.invariant.1
 
 pub take-records-spec : {M : Type 1} → statement M
 take-records-spec =

@@ -3,12 +3,12 @@
 use native.Mathlib.Omega.{arith}
 use borrow.Author.Tests.{ne_eqb}
 use Rattle.sheet_sum.specs.Wide.{value_of}
-use Rattle.sheet_sum.proofs.Halves.{no-high}
+use Rattle.sheet_sum.proofs.Halves.{no_high}
 use Rattle.sheet_sum.proofs.is_zero.Statement.{statement}
 use Rattle.sheet_sum.proofs.is_zero.Tie as tie
 
 returns : tie.Need-returns
-returns c = rw (no-high c.before.before.before.args.m c.before.if1.true)
+returns c = rw (no_high c.before.before.before.args.m c.before.if1.true)
 
 returns-2 : tie.Need-returns-2
 returns-2 c =

@@ -4,24 +4,24 @@ use Prim.Native.Nat.{◌-◌, ◌^◌}
 use native.Mathlib.Omega.{arith}
 use borrow.Author.Tests.{le-leb, lt-leb}
 use Rattle.sheet_sum.specs.Wide.{value_of}
-use Rattle.sheet_sum.proofs.Halves.{no-high, some-high}
+use Rattle.sheet_sum.proofs.Halves.{no_high, some_high}
 use Rattle.sheet_sum.proofs.plus.Statement.{statement}
 use Rattle.sheet_sum.proofs.plus.Tie as tie
 
 returns : tie.Need-returns
 returns c =
     let m = c.before.before.args.m in
-    rw (lt-leb (value_of m) (2 ^ 63 - 1) (omega (arith, some-high m c.if1.true)))
+    rw (lt-leb (value_of m) (2 ^ 63 - 1) (omega (arith, some_high m c.if1.true)))
 
 returns-2 : tie.Need-returns-2
 returns-2 c =
     let m = c.before.before.before.before.args.m in
-    rw (no-high m (omega arith), le-leb m.low (2 ^ 63 - 1) c.if2.true)
+    rw (no_high m (omega arith), le-leb m.low (2 ^ 63 - 1) c.if2.true)
 
 returns-3 : tie.Need-returns-3
 returns-3 c =
     let m = c.before.before.before.before.args.m in
-    rw (no-high m (omega arith), lt-leb m.low (2 ^ 63 - 1) c.if2.false)
+    rw (no_high m (omega arith), lt-leb m.low (2 ^ 63 - 1) c.if2.false)
 
 pub plus-spec : {M : Type 1} → statement M
 plus-spec = tie.close (tie.spec returns returns-2 returns-3)

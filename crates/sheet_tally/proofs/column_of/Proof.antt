@@ -1,7 +1,7 @@
 -- `sheet_tally::column_of` meets its contract: each arm knows the answer. Assumes nothing.
 use borrow.Author.Rules.{rules}
 use mathlib.Core.Path.{sym, ap, ◌∙◌}
-use Rattle.sheet_tally.specs.Tally.{refusedColumn, columnOf}
+use Rattle.sheet_tally.specs.Tally.{refused_column, column_of}
 use Rattle.sheet_tally.proofs.column_of.Statement.{statement}
 use Rattle.sheet_tally.proofs.column_of.Tie as tie
 
@@ -36,8 +36,8 @@ returns-4 : tie.Need-returns-4
 returns-4 c =
     let known = c.before.before.before in
     c.refused-column.ensures
-    ∙ ap refusedColumn c.before.number.ensures
-    ∙ ap columnOf (sym known.answer.given.1)
+    ∙ ap refused_column c.before.number.ensures
+    ∙ ap column_of (sym known.answer.given.1)
 
 pub column-of-spec : {M : Type 1} → statement M
 column-of-spec =

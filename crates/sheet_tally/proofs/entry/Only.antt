@@ -3,10 +3,10 @@ use Prim.Native.Nat.{ℕ}
 use mathlib.Core.Path.{◌≡◌}
 use mathlib.Core.List.{List}
 use Rattle.promise.specs.Only.{OnlyOne}
-use Rattle.promise.proofs.Laws.{equation-only}
+use Rattle.promise.proofs.Laws.{equation_only}
 use Rattle.node_call.specs.declared.CallAnswer.{CallAnswer}
 use Rattle.sheet_tally.specs.declared.entry.Entry.{Entry}
-use Rattle.sheet_tally.specs.Entry.{entryOf}
+use Rattle.sheet_tally.specs.Entry.{entry_of}
 
-pub entry-of-only : (answer : CallAnswer) (bytes : List ℕ) → OnlyOne (λ (r : Entry). r ≡ entryOf answer bytes)
-entry-of-only answer bytes = equation-only (entryOf answer bytes)
+pub entry_of_only : (answer : CallAnswer) (bytes : List ℕ) → OnlyOne (λ (r : Entry). r ≡ entry_of answer bytes)
+entry_of_only answer bytes = equation_only (entry_of answer bytes)

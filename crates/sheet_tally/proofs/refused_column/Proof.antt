@@ -4,17 +4,17 @@ use mathlib.Core.Path.{◌≡◌}
 use native.Mathlib.Omega.{arith}
 use borrow.Author.Rules.{rules}
 use borrow.Author.Tests.{lt-ltb, le-ltb}
-use Rattle.sheet_tally.specs.Tally.{columns, refusedColumn}
+use Rattle.sheet_tally.specs.Tally.{columns, refused_column}
 use Rattle.sheet_tally.proofs.refused_column.Statement.{statement}
 use Rattle.sheet_tally.proofs.refused_column.Tie as tie
 
-below : (n : ℕ) → n < 5 → columns ≡ refusedColumn n
+below : (n : ℕ) → n < 5 → columns ≡ refused_column n
 below n h = rw (lt-ltb n 5 h)
 
-above : (n : ℕ) → 9 < n → columns ≡ refusedColumn n
+above : (n : ℕ) → 9 < n → columns ≡ refused_column n
 above n h = let low : 5 ≤ n = omega arith in rw (le-ltb n 5 low, lt-ltb 9 n h)
 
-between : (n : ℕ) → 5 ≤ n → n ≤ 9 → n - 3 ≡ refusedColumn n
+between : (n : ℕ) → 5 ≤ n → n ≤ 9 → n - 3 ≡ refused_column n
 between n h k = rw (le-ltb n 5 h, le-ltb 9 n k)
 
 returns : tie.Need-returns

@@ -2,13 +2,13 @@
 -- Assumes nothing.
 use mathlib.Core.Path.{◌≡◌}
 use Rattle.promise.specs.Only.{OnlyOne}
-use Rattle.promise.proofs.Laws.{equation-only}
+use Rattle.promise.proofs.Laws.{equation_only}
 use Rattle.sheet_tally.specs.declared.entry.Entry.{Entry}
 use Rattle.sheet_tally.specs.declared.sheet.Sheet.{Sheet}
-use Rattle.sheet_tally.specs.Sheet.{noSheet, sheetWith}
+use Rattle.sheet_tally.specs.Sheet.{no_sheet, sheet_with}
 
-pub new-only : OnlyOne (λ (r : Sheet). r ≡ noSheet)
-new-only = equation-only noSheet
+pub new_only : OnlyOne (λ (r : Sheet). r ≡ no_sheet)
+new_only = equation_only no_sheet
 
-pub with-only : (s : Sheet) (entry : Entry) → OnlyOne (λ (r : Sheet). r ≡ sheetWith s entry)
-with-only s entry = equation-only (sheetWith s entry)
+pub with_only : (s : Sheet) (entry : Entry) → OnlyOne (λ (r : Sheet). r ≡ sheet_with s entry)
+with_only s entry = equation_only (sheet_with s entry)

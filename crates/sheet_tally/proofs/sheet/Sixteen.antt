@@ -1,6 +1,6 @@
 -- A sheet that a function is given has sixteen tallies: what the layout of its type says.
 --   sixteen     so many
---   looked-up   the tally that the code finds at a place of a domain is `tallyAt`'s
+--   looked-up   the tally that the code finds at a place of a domain is `tally_at`'s
 -- Assumes nothing.
 use Prim.Native.Nat.{ℕ, ◌<◌}
 use mathlib.Core.Path.{◌≡◌, sym, ◌∙◌}
@@ -14,7 +14,7 @@ use Rattle.promise.proofs.Lists.{get_d_any}
 use Rattle.settings.specs.Node.{places}
 use Rattle.sheet_tally.specs.declared.Tally.{Tally}
 use Rattle.sheet_tally.specs.declared.sheet.Sheet.{Sheet}
-use Rattle.sheet_tally.specs.Sheet.{tallyAt}
+use Rattle.sheet_tally.specs.Sheet.{tally_at}
 use Rattle.sheet_tally.specs.contracts.sheet.Sheet as declared
 use Rattle.sheet_tally.proofs.sheet.Sheet.TheLaws as declared-laws
 
@@ -22,7 +22,7 @@ pub sixteen : (s : Sheet) (vs : List Val) → Is declared.the_row s vs → lengt
 sixteen s vs p =
     sym (length-map s.tallies _) ∙ (laws.owed declared.the_type declared-laws.the_laws s vs p).0.1.0.1
 
-pub looked-up :
+pub looked_up :
     (s : Sheet) (vs : List Val) → Is declared.the_row s vs → (at : ℕ) (other : Tally) → at < places →
-    get_or s.tallies at other ≡ tallyAt s.tallies at
-looked-up s vs p at other h = get_d_any s.tallies at other _ (omega (arith, h, sixteen s vs p))
+    get_or s.tallies at other ≡ tally_at s.tallies at
+looked_up s vs p at other h = get_d_any s.tallies at other _ (omega (arith, h, sixteen s vs p))

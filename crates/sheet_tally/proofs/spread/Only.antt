@@ -2,9 +2,9 @@
 use mathlib.Core.Path.{◌≡◌}
 use lib.IntN.{ℤ}
 use Rattle.promise.specs.Only.{OnlyOne}
-use Rattle.promise.proofs.Laws.{equation-only}
+use Rattle.promise.proofs.Laws.{equation_only}
 use Rattle.sheet_tally.specs.declared.spread.Spread.{Spread}
-use Rattle.sheet_tally.specs.Spread.{spreadWith}
+use Rattle.sheet_tally.specs.Spread.{spread_with}
 
-pub with-only : (s : Spread) (d : ℤ) → OnlyOne (λ (r : Spread). r ≡ spreadWith s d)
-with-only s d = equation-only (spreadWith s d)
+pub with_only : (s : Spread) (d : ℤ) → OnlyOne (λ (r : Spread). r ≡ spread_with s d)
+with_only s d = equation_only (spread_with s d)

@@ -5,7 +5,7 @@ use Prim.Native.Nat.{◌≤◌, ◌<◌}
 use native.Mathlib.Omega.{arith}
 use borrow.Author.Tests.{le-ltb, lt-ltb, le-leb, lt-leb}
 use borrow.Author.Rules.{rules}
-use Rattle.slave_counter.specs.Counter.{jumpOf}
+use Rattle.slave_counter.specs.Counter.{jump_of}
 use Rattle.slave_counter.proofs.judge_counter.Statement.{statement}
 use Rattle.slave_counter.proofs.judge_counter.Tie as tie
 
@@ -33,7 +33,7 @@ returns-2 : tie.Need-returns-2
 returns-2 c =
     let at = c.before.before in
     let last = at.before.before in
-    let none : jumpOf last.last.given.0.0 last.before.before.args.new < 1 = omega (arith, c.if2.true) in
+    let none : jump_of last.last.given.0.0 last.before.before.args.new < 1 = omega (arith, c.if2.true) in
     rw (
       last.last.given.1,
       le-ltb _ _ (rw at.since.ensures at c.before.if1.false),
@@ -45,7 +45,7 @@ returns-3 c =
     let at = c.before.before.before in
     let last = at.before.before in
     let a = last.before.before.args in
-    let jump = jumpOf last.last.given.0.0 a.new in
+    let jump = jump_of last.last.given.0.0 a.new in
     let some : 1 ≤ jump = omega (arith, c.before.if2.false) in
     let far : a.jump-width < jump = omega (arith, c.if3.true) in
     rw (
@@ -63,7 +63,7 @@ returns-5 c =
     let at = c.before.before.before in
     let last = at.before.before in
     let a = last.before.before.args in
-    let jump = jumpOf last.last.given.0.0 a.new in
+    let jump = jump_of last.last.given.0.0 a.new in
     let some : 1 ≤ jump = omega (arith, c.before.if2.false) in
     let near : jump ≤ a.jump-width = omega (arith, c.if3.false) in
     rw (

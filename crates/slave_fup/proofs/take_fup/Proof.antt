@@ -3,19 +3,19 @@
 -- Assumes nothing.
 use mathlib.Core.Path.{◌≡◌, sym, ap, ◌∙◌}
 use Rattle.slave_pair.specs.declared.joining.Joined.{Joined}
-use Rattle.slave_pair.specs.Join.{joinedOf}
-use Rattle.slave_fup.specs.Fup.{fupAs}
+use Rattle.slave_pair.specs.Join.{joined_of}
+use Rattle.slave_fup.specs.Fup.{fup_as}
 use borrow.Author.Rules.{rules}
 use Rattle.slave_fup.proofs.take_fup.Statement.{statement}
 use Rattle.slave_fup.proofs.take_fup.Tie as tie
 
-as-found :
+as_found :
     (c : tie.After-join) (j : Joined) → c.join.result ≡ j → let a = c.before.before.args in
-    fupAs (joinedOf a.domain.settings.follow_up_time a.domain.pairing a.t a.fup) a.domain a.fup
-    ≡ fupAs j a.domain a.fup
-as-found c j e =
+    fup_as (joined_of a.domain.settings.follow_up_time a.domain.pairing a.t a.fup) a.domain a.fup
+    ≡ fup_as j a.domain a.fup
+as_found c j e =
     let a = c.before.before.args in
-    ap (λ (j : Joined). fupAs j a.domain a.fup) (sym c.join.ensures ∙ e)
+    ap (λ (j : Joined). fup_as j a.domain a.fup) (sym c.join.ensures ∙ e)
 
 join-requires : tie.Need-join-requires
 join-requires c κs = search rules
@@ -42,7 +42,7 @@ next-update-requires : tie.Need-next-update-requires
 next-update-requires c κs = search rules
 
 returns : tie.Need-returns
-returns c = sym (as-found c.before.before.before _ c.before.refusal.given.1)
+returns c = sym (as_found c.before.before.before _ c.before.refusal.given.1)
 
 returns-2 : tie.Need-returns-2
 returns-2 c =
@@ -54,7 +54,7 @@ returns-2 c =
       c.before.before.before.update-by.ensures,
       made.new-base.ensures,
     )
-    (sym (as-found made.before.before.before.before _ made.before.before.pair.given.1))
+    (sym (as_found made.before.before.before.before _ made.before.before.pair.given.1))
 
 pub take-fup-spec : {M : Type 1} → statement M
 take-fup-spec =

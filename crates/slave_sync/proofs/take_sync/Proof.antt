@@ -2,22 +2,22 @@
 -- Assumes nothing.
 use mathlib.Core.Path.{◌≡◌, sym, ap, ◌∙◌}
 use Rattle.slave_counter.specs.declared.RowCheck.{RowCheck}
-use Rattle.slave_sync.specs.Sync.{checkFor, syncAs, syncOf}
+use Rattle.slave_sync.specs.Sync.{check_for, sync_as, sync_of}
 use borrow.Author.Rules.{rules}
 use Rattle.slave_sync.proofs.take_sync.Statement.{statement}
 use Rattle.slave_sync.proofs.take_sync.Tie as tie
 
-as-found :
+as_found :
     (c : tie.After-check-row) (k : RowCheck) → c.check-row.result ≡ k →
     let a = c.before.before.before.before.args in
-    syncOf a.domain a.t a.sync ≡ syncAs k a.domain a.t a.sync
-as-found c k e =
+    sync_of a.domain a.t a.sync ≡ sync_as k a.domain a.t a.sync
+as_found c k e =
     let a = c.before.before.before.before.args in
     let row = c.before in
     let verdict = row.before in
-    let found : c.check-row.result ≡ checkFor a.domain a.t a.sync =
+    let found : c.check-row.result ≡ check_for a.domain a.t a.sync =
     rw (row.row_of.ensures, verdict.judge-counter.ensures) at c.check-row.ensures in
-    ap (λ (k : RowCheck). syncAs k a.domain a.t a.sync) (sym found ∙ e)
+    ap (λ (k : RowCheck). sync_as k a.domain a.t a.sync) (sym found ∙ e)
 
 judge-counter-requires : tie.Need-judge-counter-requires
 judge-counter-requires c κs = search rules
@@ -55,17 +55,17 @@ listened-requires-3 c κs = search rules
 returns : tie.Need-returns
 returns c =
     let at = c.before.before.before in
-    rw (c.listened.ensures, c.before.with-row.ensures) (sym (as-found at.before.before _ at.row.given.1))
+    rw (c.listened.ensures, c.before.with_row_lem.ensures) (sym (as_found at.before.before _ at.row.given.1))
 
 returns-2 : tie.Need-returns-2
 returns-2 c =
     let at = c.before.before in
-    rw c.listened2.ensures (sym (as-found at.before.before _ at.row2.given.1))
+    rw c.listened2.ensures (sym (as_found at.before.before _ at.row2.given.1))
 
 returns-3 : tie.Need-returns-3
 returns-3 c =
     let at = c.before.before.before in
-    rw (c.listened3.ensures, c.before.pair_of.ensures) (sym (as-found at.before.before _ at.row3.given.1))
+    rw (c.listened3.ensures, c.before.pair_of.ensures) (sym (as_found at.before.before _ at.row3.given.1))
 
 pub take-sync-spec : {M : Type 1} → statement M
 take-sync-spec =

@@ -15,28 +15,28 @@ use lib.Seq.{take-suc-set}
 use Rattle.text.specs.Fields.{fields_at}
 
 module _ {A : Type 0} (field : ℕ → A) (step : ℕ) where
-  pub fields-length : (k at : ℕ) → length (fields_at field step k at) ≡ k
-  fields-length zero at = refl
-  fields-length (suc k) at = ap suc (fields-length k (at + step))
+  pub fields_length : (k at : ℕ) → length (fields_at field step k at) ≡ k
+  fields_length zero at = refl
+  fields_length (suc k) at = ap suc (fields_length k (at + step))
 
-  pub fields-suc :
+  pub fields_suc :
       (k at : ℕ) → fields_at field step (suc k) at ≡ fields_at field step k at ++ (field (at + step * k) ∷ [])
-  fields-suc zero at =
+  fields_suc zero at =
       let here : at ≡ at + step * 0 = omega arith in
       ap (λ (p : ℕ). field p ∷ []) here
-  fields-suc (suc k) at =
+  fields_suc (suc k) at =
       let there : at + step + step * k ≡ at + step * suc k = omega (arith, mul-suc step k) in
       ap (λ (l : List A). field at ∷ l)
-      (fields-suc k (at + step) ∙ ap (λ (p : ℕ). fields_at field step k (at + step) ++ (field p ∷ [])) there)
+      (fields_suc k (at + step) ∙ ap (λ (p : ℕ). fields_at field step k (at + step) ++ (field p ∷ [])) there)
 
-  pub fields-take : (n k at : ℕ) → n ≤ k → take n (fields_at field step k at) ≡ fields_at field step n at
-  fields-take zero k at h = refl
-  fields-take (suc n) zero at h = absurd (omega arith)
-  fields-take (suc n) (suc k) at h = ap (λ (l : List A). field at ∷ l) (fields-take n k (at + step) (omega arith))
+  pub fields_take : (n k at : ℕ) → n ≤ k → take n (fields_at field step k at) ≡ fields_at field step n at
+  fields_take zero k at h = refl
+  fields_take (suc n) zero at h = absurd (omega arith)
+  fields_take (suc n) (suc k) at h = ap (λ (l : List A). field at ∷ l) (fields_take n k (at + step) (omega arith))
 
-  pub fields-put :
+  pub fields_put :
       (l : List A) (k at p : ℕ) (x : A) → k < length l → p ≡ at + step * k → x ≡ field p →
       take k l ≡ fields_at field step k at → take (k + 1) (set l k x) ≡ fields_at field step (k + 1) at
-  fields-put l k at p x h there is before =
+  fields_put l k at p x h there is before =
       rw add-one
-      (take-suc-set l k x h ∙ (λ i. before i ++ ((is ∙ ap field there) i ∷ [])) ∙ sym (fields-suc k at))
+      (take-suc-set l k x h ∙ (λ i. before i ++ ((is ∙ ap field there) i ∷ [])) ∙ sym (fields_suc k at))

@@ -5,17 +5,17 @@ use native.Mathlib.Nat.{le_refl, le_of_eq}
 use lib.ListN.{length}
 use Rattle.clock.specs.declared.time.GlobalTime.{GlobalTime}
 use Rattle.text.specs.Text.{decimal, digits}
-use Rattle.text.proofs.Lengths.{decimal-length, digits-length, append-fits}
-use Rattle.text.specs.Lines.{blank, point, answerText, timeText}
+use Rattle.text.proofs.Lengths.{decimal_length, digits_length, append_fits}
+use Rattle.text.specs.Lines.{blank, point, answer_text, time_text}
 
-pub time-fits : (g : GlobalTime) → length (timeText g) ≤ 30
-time-fits g =
-    append-fits (decimal g.0 ++ point) (digits 9 g.1)
-    (append-fits (decimal g.0) point (decimal-length g.0) (le_refl 1))
-    (le_of_eq (digits-length 9 g.1))
+pub time_fits : (g : GlobalTime) → length (time_text g) ≤ 30
+time_fits g =
+    append_fits (decimal g.0 ++ point) (digits 9 g.1)
+    (append_fits (decimal g.0) point (decimal_length g.0) (le_refl 1))
+    (le_of_eq (digits_length 9 g.1))
 
-pub answer-fits : (item number : ℕ) → length (answerText item number) ≤ 41
-answer-fits item number =
-    append-fits (decimal item ++ blank) (decimal number)
-    (append-fits (decimal item) blank (decimal-length item) (le_refl 1))
-    (decimal-length number)
+pub answer_fits : (item number : ℕ) → length (answer_text item number) ≤ 41
+answer_fits item number =
+    append_fits (decimal item ++ blank) (decimal number)
+    (append_fits (decimal item) blank (decimal_length item) (le_refl 1))
+    (decimal_length number)

@@ -6,25 +6,25 @@ use mathlib.Core.List.{List}
 use Rattle.promise.specs.Only.{OnlyOne}
 use Rattle.clock.specs.declared.time.GlobalTime.{GlobalTime}
 use Rattle.text.specs.Text.{Puts}
-use Rattle.text.proofs.Only.{puts-only}
-use Rattle.text.specs.Lines.{answerText, timeText, badText, cutText}
+use Rattle.text.proofs.Only.{puts_only}
+use Rattle.text.specs.Lines.{answer_text, time_text, bad_text, cut_text}
 
-pub put-answer-only :
+pub put_answer_only :
     (item number : ℕ) (at : ℕ) (before : List ℕ) →
-    OnlyOne (λ (r : ℕ × List ℕ). Puts (answerText item number) at before r.0 r.1)
-put-answer-only item number = puts-only (answerText item number)
+    OnlyOne (λ (r : ℕ × List ℕ). Puts (answer_text item number) at before r.0 r.1)
+put_answer_only item number = puts_only (answer_text item number)
 
-pub put-time-only :
+pub put_time_only :
     (time : GlobalTime) (at : ℕ) (before : List ℕ) →
-    OnlyOne (λ (r : ℕ × List ℕ). Puts (timeText time) at before r.0 r.1)
-put-time-only time = puts-only (timeText time)
+    OnlyOne (λ (r : ℕ × List ℕ). Puts (time_text time) at before r.0 r.1)
+put_time_only time = puts_only (time_text time)
 
-pub put-bad-only :
+pub put_bad_only :
     (item : ℕ) (at : ℕ) (before : List ℕ) →
-    OnlyOne (λ (r : ℕ × List ℕ). Puts (badText item) at before r.0 r.1)
-put-bad-only item = puts-only (badText item)
+    OnlyOne (λ (r : ℕ × List ℕ). Puts (bad_text item) at before r.0 r.1)
+put_bad_only item = puts_only (bad_text item)
 
-pub put-cut-only :
+pub put_cut_only :
     (item : ℕ) (at : ℕ) (before : List ℕ) →
-    OnlyOne (λ (r : ℕ × List ℕ). Puts (cutText item) at before r.0 r.1)
-put-cut-only item = puts-only (cutText item)
+    OnlyOne (λ (r : ℕ × List ℕ). Puts (cut_text item) at before r.0 r.1)
+put_cut_only item = puts_only (cut_text item)

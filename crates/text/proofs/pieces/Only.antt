@@ -7,22 +7,22 @@ use mathlib.Core.List.{List}
 use lib.ListN.{drop}
 use lib.Seq.{paste}
 use Rattle.promise.specs.Only.{OnlyOne}
-use Rattle.promise.proofs.Laws.{equation-only}
-use Rattle.text.specs.Pieces.{KeptRest, placeFor, nextItem}
+use Rattle.promise.proofs.Laws.{equation_only}
+use Rattle.text.specs.Pieces.{KeptRest, place_for, next_item}
 
-pub keep-rest-only :
+pub keep_rest_only :
     (used held : ℕ) (before : List ℕ) →
     OnlyOne (λ (r : ℕ × List ℕ). KeptRest used held before r.0 r.1)
-keep-rest-only used held before x y p q =
+keep_rest_only used held before x y p q =
     let count = p.count ∙ sym q.count in
     let bytes = p.bytes ∙ ap (paste before 0 (drop used before)) count ∙ sym q.bytes in
     λ i. (count i, bytes i)
 
-pub least-only : (a b : ℕ) → OnlyOne (λ (r : ℕ). r ≡ min a b)
-least-only a b = equation-only (min a b)
+pub least_only : (a b : ℕ) → OnlyOne (λ (r : ℕ). r ≡ min a b)
+least_only a b = equation_only (min a b)
 
-pub with-room-only : (at line length : ℕ) → OnlyOne (λ (r : ℕ). r ≡ placeFor at line length)
-with-room-only at line length = equation-only (placeFor at line length)
+pub with_room_only : (at line length : ℕ) → OnlyOne (λ (r : ℕ). r ≡ place_for at line length)
+with_room_only at line length = equation_only (place_for at line length)
 
-pub next-item-only : (item : ℕ) → OnlyOne (λ (r : ℕ). r ≡ nextItem item)
-next-item-only item = equation-only (nextItem item)
+pub next_item_only : (item : ℕ) → OnlyOne (λ (r : ℕ). r ≡ next_item item)
+next_item_only item = equation_only (next_item item)

@@ -5,7 +5,7 @@ use native.Mathlib.Numerals.{add-one}
 use native.Mathlib.Omega.{arith}
 use lib.ListN.{length, drop, drop_of_length-le}
 use lib.Seq.{drop-cons}
-use Rattle.text.proofs.Laws.{Left, begun, turn, ended, length-kept}
+use Rattle.text.proofs.Laws.{Left, begun, turn, ended, length_kept}
 use Rattle.text.proofs.put_bytes.Statement.{statement}
 use Rattle.text.proofs.put_bytes.Tie as tie
 
@@ -49,7 +49,7 @@ returns c =
     ended (drop_of_length-le bytes {i = at-loop.loop.i} (omega arith)) at-loop.loop.invariant.0
 
 same_length : tie.Need-same-length invariant-loop decreases-loop
-same_length c = length-kept (returns c)
+same_length c = length_kept (returns c)
 
 pub put-bytes-spec : {M : Type 1} → statement M
 put-bytes-spec =

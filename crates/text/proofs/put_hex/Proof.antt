@@ -5,14 +5,14 @@ use mathlib.Core.Path.{ap}
 use native.Mathlib.Numerals.{add-one}
 use native.Mathlib.Omega.{arith}
 use lib.ListN.{length, drop, drop_of_length-le}
-use Rattle.text.specs.Text.{hexOf}
-use Rattle.text.proofs.Laws.{Left, begun, turn, hex-cons, ended, length-kept}
+use Rattle.text.specs.Text.{hex_of}
+use Rattle.text.proofs.Laws.{Left, begun, turn, hex_cons, ended, length_kept}
 use Rattle.text.proofs.put_hex.Statement.{statement}
 use Rattle.text.proofs.put_hex.Tie as tie
 
 abbrev invariant-loop : tie.invariant-loop
 invariant-loop out₀ at bytes place₀ i₀ out place i =
-    Left (hexOf (drop i bytes)) place out (hexOf bytes) at out₀
+    Left (hex_of (drop i bytes)) place out (hex_of bytes) at out₀
     × (i ≤ length bytes)
 
 abbrev decreases-loop : tie.decreases-loop
@@ -39,7 +39,7 @@ loop-again c =
     let bytes = at-loop.before.before.before.args.bytes.now in
     let i = at-loop.loop.i in (
       rw (add-one i)
-          (turn (hex-cons bytes i (omega arith)) c.before.before.put-hex-byte.ensures at-loop.loop.invariant.0),
+          (turn (hex_cons bytes i (omega arith)) c.before.before.put-hex-byte.ensures at-loop.loop.invariant.0),
       omega arith,
     )
 
@@ -47,10 +47,10 @@ returns : tie.Need-returns invariant-loop decreases-loop
 returns c =
     let at-loop = c.before in
     let bytes = at-loop.before.before.before.args.bytes.now in
-    ended (ap hexOf (drop_of_length-le bytes {i = at-loop.loop.i} (omega arith))) at-loop.loop.invariant.0
+    ended (ap hex_of (drop_of_length-le bytes {i = at-loop.loop.i} (omega arith))) at-loop.loop.invariant.0
 
 same_length : tie.Need-same-length invariant-loop decreases-loop
-same_length c = length-kept (returns c)
+same_length c = length_kept (returns c)
 
 pub put-hex-spec : {M : Type 1} → statement M
 put-hex-spec =

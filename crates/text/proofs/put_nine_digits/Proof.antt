@@ -5,8 +5,8 @@ use mathlib.Core.Path.{◌≡◌, refl, ap}
 use native.Mathlib.Nat.{one-le-pow}
 use native.Mathlib.Omega.{arith}
 use Rattle.text.specs.Text.{digits}
-use Rattle.text.proofs.Laws.{Left, begun, turn, ended, length-kept}
-use Rattle.text.proofs.Digits.{digits-next, power-next}
+use Rattle.text.proofs.Laws.{Left, begun, turn, ended, length_kept}
+use Rattle.text.proofs.Digits.{digits_next, power_next}
 use Rattle.text.proofs.put_nine_digits.Statement.{statement}
 use Rattle.text.proofs.put_nine_digits.Tie as tie
 
@@ -25,7 +25,7 @@ div-put-byte : tie.Need-nonzero-div-put-byte invariant-loop decreases-loop
 div-put-byte c =
     let at-loop = c.before.before in
     let left = at-loop.loop.left in
-    omega (arith, power-next left _ (omega arith) at-loop.loop.invariant.1, one-le-pow (left - 1) 10 (omega arith))
+    omega (arith, power_next left _ (omega arith) at-loop.loop.invariant.1, one-le-pow (left - 1) 10 (omega arith))
 
 cast-put-byte : tie.Need-overflow-cast-put-byte invariant-loop decreases-loop
 cast-put-byte c = omega arith
@@ -47,8 +47,8 @@ loop-again c =
     let at-loop = c.before.before.before.before.before in
     let left = at-loop.loop.left in
     let n = at-loop.before.before.args.n in
-    let power = power-next left _ (omega arith) at-loop.loop.invariant.1 in (
-      turn (digits-next left n _ (omega arith) power) c.before.before.put_byte.ensures at-loop.loop.invariant.0,
+    let power = power_next left _ (omega arith) at-loop.loop.invariant.1 in (
+      turn (digits_next left n _ (omega arith) power) c.before.before.put_byte.ensures at-loop.loop.invariant.0,
       power,
     )
 
@@ -60,7 +60,7 @@ returns c =
     ended (ap (λ k. digits k n) {x = at-loop.loop.left} {y = 0} (omega arith)) at-loop.loop.invariant.0
 
 same_length : tie.Need-same-length invariant-loop decreases-loop
-same_length c = length-kept (returns c)
+same_length c = length_kept (returns c)
 
 pub put-nine-digits-spec : {M : Type 1} → statement M
 put-nine-digits-spec =

@@ -18,34 +18,34 @@ use Rattle.node_call.specs.declared.Called.{Called}
 use Rattle.node_call.specs.Called.{CalledIn}
 use Rattle.bench_record.specs.Step.{Answered}
 use Rattle.bench_record.proofs.step.Laws.{answered}
-use Rattle.trial_step.specs.TrialLine.{trialLine}
-use Rattle.trial_step.specs.Step.{paddedFrame, givenFrame, lentLength, lentBuffer}
-use Rattle.trial_step.proofs.Laws.{buffer, lent-least, lent-count, lent_is, shown-room, shown-is}
+use Rattle.trial_step.specs.TrialLine.{trial_line}
+use Rattle.trial_step.specs.Step.{padded_frame, given_frame, lent_length, lent_buffer}
+use Rattle.trial_step.proofs.Laws.{buffer, lent_least, lent_count, lent_is, shown-room, shown-is}
 use Rattle.trial_step.proofs.ask.Statement.{statement}
 use Rattle.trial_step.proofs.ask.Tie as tie
 
 -- ---- At most 512 bytes are lent.
-lent-most : (q : Request) (bytes : List ℕ) {lent : ℕ} → lent ≡ lentLength q bytes → lent ≤ 512
-lent-most (Frame t) bytes e = omega arith
-lent-most (Read domain t) bytes e = omega arith
-lent-most (Set domain t s ns) bytes e = omega arith
-lent-most (Cycle t) bytes e = lent-least (pair_at bytes 12) e
-lent-most (Confirm domain t counter) bytes e = lent-least (pair_at bytes 13) e
+lent_most : (q : Request) (bytes : List ℕ) {lent : ℕ} → lent ≡ lent_length q bytes → lent ≤ 512
+lent_most (Frame t) bytes e = omega arith
+lent_most (Read domain t) bytes e = omega arith
+lent_most (Set domain t s ns) bytes e = omega arith
+lent_most (Cycle t) bytes e = lent_least (pair_at bytes 12) e
+lent_most (Confirm domain t counter) bytes e = lent_least (pair_at bytes 13) e
 
 asked :
     (n : Node) (item : ℕ) (q : Request) (bytes : List ℕ) {frame left before after : List ℕ} {count lent at end : ℕ}
     {r : Called} →
-    frame ≡ paddedFrame bytes → count ≡ get_or bytes 3 0 → lent ≡ lentLength q bytes →
+    frame ≡ padded_frame bytes → count ≡ get_or bytes 3 0 → lent ≡ lent_length q bytes →
     CalledIn n q (take count frame) (take lent buffer) r left → length left ≡ length (take lent buffer) →
-    Puts (trialLine item r.answer (take lent (left ++ drop lent buffer))) at before end after →
-    Answered (trialLine item) n q (givenFrame bytes) (lentBuffer bytes q) at before
+    Puts (trial_line item r.answer (take lent (left ++ drop lent buffer))) at before end after →
+    Answered (trial_line item) n q (given_frame bytes) (lent_buffer bytes q) at before
     (record { node = r.node; at = end; goes_on = true }) after
 asked n item q bytes {left} {lent} {r} e f g called long line =
-    let most : lent ≤ 512 = lent-most q bytes g in
-    answered (trialLine item)
+    let most : lent ≤ 512 = lent_most q bytes g in
+    answered (trial_line item)
     (subst₂ (λ xs ys. CalledIn n q xs ys r left) (λ i. take (f i) (e i))
     (lent_is lent most ∙ ap (λ (k : ℕ). replicate k 0xA5) g) called)
-    (named (ap (trialLine item r.answer) (shown-is lent most left long)) line)
+    (named (ap (trial_line item r.answer) (shown-is lent most left long)) line)
 
 padded-frame-requires : tie.Need-padded-frame-requires
 padded-frame-requires c κs = search rules
@@ -69,11 +69,11 @@ array-borrow-prefix-buffer : tie.Need-array-borrow-prefix-buffer
 array-borrow-prefix-buffer c =
     let lent = c.before in
     let a = lent.before.before.before.before.before.args in
-    lent-most a.request a.bytes.now lent.lent_length.ensures
+    lent_most a.request a.bytes.now lent.lent_length.ensures
 
 slice-aggregate-call-2 : tie.Need-slice-aggregate-call-2
 slice-aggregate-call-2 c =
-    lent-count c.before.before.lent_length.result (array-borrow-prefix-buffer c.before)
+    lent_count c.before.before.lent_length.result (array-borrow-prefix-buffer c.before)
 
 call-requires : tie.Need-call-requires
 call-requires c κs = search rules

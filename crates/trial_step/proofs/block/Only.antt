@@ -5,9 +5,9 @@ use Prim.Native.Nat.{ℕ}
 use mathlib.Core.Path.{◌≡◌}
 use mathlib.Core.List.{List}
 use Rattle.promise.specs.Only.{OnlyOne}
-use Rattle.promise.proofs.Laws.{equation-only}
+use Rattle.promise.proofs.Laws.{equation_only}
 use Rattle.settings.specs.declared.node_settings.NodeSettings.{NodeSettings}
-use Rattle.trial_step.specs.Block.{settingsOf}
+use Rattle.trial_step.specs.Block.{settings_of}
 
-pub settings-of-only : (item : List ℕ) → OnlyOne (λ (r : NodeSettings). r ≡ settingsOf item)
-settings-of-only item = equation-only _
+pub settings_of_only : (item : List ℕ) → OnlyOne (λ (r : NodeSettings). r ≡ settings_of item)
+settings_of_only item = equation_only _

@@ -9,8 +9,8 @@ use lib.Dec.{ltb}
 use lib.ListN.{get_or}
 use Rattle.refusal.specs.declared.Refusal.TheVariants.{Settings}
 use Rattle.settings.specs.declared.node_settings.Verdict.TheVariants.{Refused}
-use Rattle.settings.specs.Node.{judgedOf}
-use Rattle.trial_step.specs.Block.{settingsOf}
+use Rattle.settings.specs.Node.{judged_of}
+use Rattle.trial_step.specs.Block.{settings_of}
 
-pub too-many-refused : (item : List ℕ) → ltb 16 (get_or item 3 0) ≡ true → judgedOf (settingsOf item) ≡ Refused Settings
-too-many-refused item e = rw e
+pub too_many_refused : (item : List ℕ) → ltb 16 (get_or item 3 0) ≡ true → judged_of (settings_of item) ≡ Refused Settings
+too_many_refused item e = rw e

@@ -3,8 +3,8 @@
 -- Assumes nothing.
 use mathlib.Core.Path.{◌≡◌, refl}
 use mathlib.Core.Bool.{false}
-use Rattle.settings.specs.Ranges.{isGood}
-use Rattle.trial_step.specs.DomainBlock.{noSettings}
+use Rattle.settings.specs.Ranges.{is_good}
+use Rattle.trial_step.specs.DomainBlock.{no_settings}
 
-pub no-settings-refused : isGood noSettings ≡ false
-no-settings-refused = refl
+pub no_settings_refused : is_good no_settings ≡ false
+no_settings_refused = refl

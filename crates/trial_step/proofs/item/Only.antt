@@ -5,12 +5,12 @@ use Prim.Native.Nat.{ℕ}
 use mathlib.Core.Path.{◌≡◌}
 use mathlib.Core.List.{List}
 use Rattle.promise.specs.Only.{OnlyOne}
-use Rattle.promise.proofs.Laws.{equation-only}
+use Rattle.promise.proofs.Laws.{equation_only}
 use Rattle.trial_step.specs.declared.item.Item.{Item}
-use Rattle.trial_step.specs.Item.{itemOf, itemLength}
+use Rattle.trial_step.specs.Item.{item_of, item_length}
 
-pub item-of-only : (bytes : List ℕ) → OnlyOne (λ (r : Item). r ≡ itemOf bytes)
-item-of-only bytes = equation-only _
+pub item_of_only : (bytes : List ℕ) → OnlyOne (λ (r : Item). r ≡ item_of bytes)
+item_of_only bytes = equation_only _
 
-pub item-length-only : (bytes : List ℕ) → OnlyOne (λ (r : ℕ). r ≡ itemLength bytes)
-item-length-only bytes = equation-only _
+pub item_length_only : (bytes : List ℕ) → OnlyOne (λ (r : ℕ). r ≡ item_length bytes)
+item_length_only bytes = equation_only _

@@ -5,25 +5,25 @@ use mathlib.Core.Path.{◌≡◌, refl}
 use mathlib.Core.List.{List, [], ◌∷◌, ◌++◌}
 use native.Mathlib.Omega.{arith}
 use lib.ListN.{length}
-use Rattle.text.specs.Text.{hexOf, decimal}
+use Rattle.text.specs.Text.{hex_of, decimal}
 use Rattle.text.specs.Lines.{blank}
 use Rattle.node.specs.declared.cycles.CycleAnswer.{CycleAnswer}
 use Rattle.node.specs.declared.cycles.CycleAnswer.TheVariants.{Sent, Refused}
-use Rattle.node.specs.CycleAnswer.{cycleCount}
+use Rattle.node.specs.CycleAnswer.{cycle_count}
 use Rattle.node_call.specs.declared.CallAnswer.TheVariants.{Cycle}
-use Rattle.trial_step.specs.TrialLine.{shownBuffer, bufferText, trialValues}
+use Rattle.trial_step.specs.TrialLine.{shown_buffer, buffer_text, trial_values}
 
-pub no_byte : (buffer : List ℕ) → length buffer ≡ 0 → 45 ∷ [] ≡ shownBuffer buffer
+pub no_byte : (buffer : List ℕ) → length buffer ≡ 0 → 45 ∷ [] ≡ shown_buffer buffer
 no_byte [] none = refl
 no_byte (b ∷ bs) none = absurd (omega (arith, none))
 
-pub some_byte : (buffer : List ℕ) → (length buffer ≡ 0 → ⊥) → hexOf buffer ≡ shownBuffer buffer
+pub some_byte : (buffer : List ℕ) → (length buffer ≡ 0 → ⊥) → hex_of buffer ≡ shown_buffer buffer
 some_byte [] some = absurd (some refl)
 some_byte (b ∷ bs) some = refl
 
 -- by cases: each of the two answers has the buffer in its text
-pub cycle-shows :
+pub cycle_shows :
     (answer : CycleAnswer) (buffer : List ℕ) →
-    blank ++ decimal (cycleCount answer) ++ bufferText buffer ≡ trialValues (Cycle answer) buffer
-cycle-shows (Sent count) buffer = refl
-cycle-shows (Refused refusal) buffer = refl
+    blank ++ decimal (cycle_count answer) ++ buffer_text buffer ≡ trial_values (Cycle answer) buffer
+cycle_shows (Sent count) buffer = refl
+cycle_shows (Refused refusal) buffer = refl

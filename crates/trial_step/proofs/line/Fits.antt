@@ -7,64 +7,64 @@ use native.Mathlib.Nat.{le_refl, le_trans}
 use native.Mathlib.Omega.{arith}
 use lib.ListN.{length}
 use Rattle.text.specs.Text.{decimal}
-use Rattle.text.proofs.Lengths.{decimal-length, hex-length, append-fits}
+use Rattle.text.proofs.Lengths.{decimal_length, hex_length, append_fits}
 use Rattle.text.specs.Lines.{blank}
 use Rattle.call_read.specs.declared.ReadAnswer.{ReadAnswer}
 use Rattle.call_read.specs.declared.ReadAnswer.TheVariants as read
-use Rattle.node.specs.CycleAnswer.{cycleCount}
+use Rattle.node.specs.CycleAnswer.{cycle_count}
 use Rattle.node_call.specs.declared.CallAnswer.{CallAnswer}
-use Rattle.node_call.specs.Calls.{callNumber}
+use Rattle.node_call.specs.Calls.{call_number}
 use Rattle.node_call.specs.declared.CallAnswer.TheVariants.{Frame, Read, Set, Cycle, Confirm}
 use Rattle.node_queue.specs.declared.QueueAnswer.{QueueAnswer}
-use Rattle.node_queue.specs.Queue.{queueNumber}
-use Rattle.bench_record.specs.Line.{shownText}
-use Rattle.bench_record.proofs.line.Fits.{shown-fits, with-fits}
+use Rattle.node_queue.specs.Queue.{queue_number}
+use Rattle.bench_record.specs.Line.{shown_text}
+use Rattle.bench_record.proofs.line.Fits.{shown_fits, with_fits}
 use Rattle.trial_step.specs.TrialLine.{
-  userText,
-  trialRead,
-  shownBuffer,
-  bufferText,
-  trialValues,
-  trialLine,
-  queueLine,
+  user_text,
+  trial_read,
+  shown_buffer,
+  buffer_text,
+  trial_values,
+  trial_line,
+  queue_line,
 }
 
-buffer-shown-fits : (buffer : List ℕ) → length buffer ≤ 512 → length (shownBuffer buffer) ≤ 1024
-buffer-shown-fits [] h = omega arith
-buffer-shown-fits (b ∷ bs) h = omega (arith, hex-length (b ∷ bs))
+buffer_shown_fits : (buffer : List ℕ) → length buffer ≤ 512 → length (shown_buffer buffer) ≤ 1024
+buffer_shown_fits [] h = omega arith
+buffer_shown_fits (b ∷ bs) h = omega (arith, hex_length (b ∷ bs))
 
-buffer-fits : (buffer : List ℕ) → length buffer ≤ 512 → length (bufferText buffer) ≤ 1025
-buffer-fits buffer h = append-fits blank (shownBuffer buffer) (le_refl 1) (buffer-shown-fits buffer h)
+buffer_fits : (buffer : List ℕ) → length buffer ≤ 512 → length (buffer_text buffer) ≤ 1025
+buffer_fits buffer h = append_fits blank (shown_buffer buffer) (le_refl 1) (buffer_shown_fits buffer h)
 
-read_fits : (answer : ReadAnswer) → length (trialRead answer) ≤ 62
+read_fits : (answer : ReadAnswer) → length (trial_read answer) ≤ 62
 read_fits (read.Refused refusal) = omega arith
 read_fits (read.Time shown) =
-    append-fits (shownText shown ++ blank ++ userText shown.user ++ blank) (decimal shown.updates)
-    (append-fits (shownText shown ++ blank ++ userText shown.user) blank
-    (append-fits (shownText shown ++ blank) (userText shown.user)
-    (append-fits (shownText shown) blank (shown-fits shown) (le_refl 1))
+    append_fits (shown_text shown ++ blank ++ user_text shown.user ++ blank) (decimal shown.updates)
+    (append_fits (shown_text shown ++ blank ++ user_text shown.user) blank
+    (append_fits (shown_text shown ++ blank) (user_text shown.user)
+    (append_fits (shown_text shown) blank (shown_fits shown) (le_refl 1))
     (le_refl 6))
     (le_refl 1))
-    (decimal-length shown.updates)
+    (decimal_length shown.updates)
 
-values-fit : (answer : CallAnswer) (buffer : List ℕ) → length buffer ≤ 512 → length (trialValues answer buffer) ≤ 1046
-values-fit (Frame answer) buffer h = omega arith
-values-fit (Read answer) buffer h = omega (arith, read_fits answer)
-values-fit (Set answer) buffer h = omega arith
-values-fit (Cycle answer) buffer h =
-    append-fits (blank ++ decimal (cycleCount answer)) (bufferText buffer)
-    (append-fits blank (decimal (cycleCount answer)) (le_refl 1) (decimal-length (cycleCount answer)))
-    (buffer-fits buffer h)
-values-fit (Confirm answer) buffer h = omega (arith, buffer-fits buffer h)
+values_fit : (answer : CallAnswer) (buffer : List ℕ) → length buffer ≤ 512 → length (trial_values answer buffer) ≤ 1046
+values_fit (Frame answer) buffer h = omega arith
+values_fit (Read answer) buffer h = omega (arith, read_fits answer)
+values_fit (Set answer) buffer h = omega arith
+values_fit (Cycle answer) buffer h =
+    append_fits (blank ++ decimal (cycle_count answer)) (buffer_text buffer)
+    (append_fits blank (decimal (cycle_count answer)) (le_refl 1) (decimal_length (cycle_count answer)))
+    (buffer_fits buffer h)
+values_fit (Confirm answer) buffer h = omega (arith, buffer_fits buffer h)
 
-pub line-fits :
+pub line_fits :
     (item : ℕ) (answer : CallAnswer) (buffer : List ℕ) → length buffer ≤ 512 →
-    length (trialLine item answer buffer) ≤ 1088
-line-fits item answer buffer h =
-    with-fits item (callNumber answer) (trialValues answer buffer) (values-fit answer buffer h)
+    length (trial_line item answer buffer) ≤ 1088
+line_fits item answer buffer h =
+    with_fits item (call_number answer) (trial_values answer buffer) (values_fit answer buffer h)
 
-pub queue-line-fits :
+pub queue_line_fits :
     (item : ℕ) (answer : QueueAnswer) (buffer : List ℕ) → length buffer ≤ 512 →
-    length (queueLine item answer buffer) ≤ 1088
-queue-line-fits item answer buffer h =
-    le_trans (with-fits item (queueNumber answer) (bufferText buffer) (buffer-fits buffer h)) (omega arith)
+    length (queue_line item answer buffer) ≤ 1088
+queue_line_fits item answer buffer h =
+    le_trans (with_fits item (queue_number answer) (buffer_text buffer) (buffer_fits buffer h)) (omega arith)

@@ -5,17 +5,17 @@ use Prim.Native.Nat.{ℕ}
 use mathlib.Core.List.{List}
 use Rattle.promise.specs.Only.{OnlyOne}
 use Rattle.text.specs.Text.{Puts}
-use Rattle.text.proofs.Only.{puts-only}
+use Rattle.text.proofs.Only.{puts_only}
 use Rattle.node_call.specs.declared.CallAnswer.{CallAnswer}
 use Rattle.node_queue.specs.declared.QueueAnswer.{QueueAnswer}
-use Rattle.trial_step.specs.TrialLine.{trialLine, queueLine}
+use Rattle.trial_step.specs.TrialLine.{trial_line, queue_line}
 
-pub put-trial-line-only :
+pub put_trial_line_only :
     (item : ℕ) (answer : CallAnswer) (buffer : List ℕ) (at : ℕ) (before : List ℕ) →
-    OnlyOne (λ (r : ℕ × List ℕ). Puts (trialLine item answer buffer) at before r.0 r.1)
-put-trial-line-only item answer buffer = puts-only (trialLine item answer buffer)
+    OnlyOne (λ (r : ℕ × List ℕ). Puts (trial_line item answer buffer) at before r.0 r.1)
+put_trial_line_only item answer buffer = puts_only (trial_line item answer buffer)
 
-pub put-queue-line-only :
+pub put_queue_line_only :
     (item : ℕ) (answer : QueueAnswer) (buffer : List ℕ) (at : ℕ) (before : List ℕ) →
-    OnlyOne (λ (r : ℕ × List ℕ). Puts (queueLine item answer buffer) at before r.0 r.1)
-put-queue-line-only item answer buffer = puts-only (queueLine item answer buffer)
+    OnlyOne (λ (r : ℕ × List ℕ). Puts (queue_line item answer buffer) at before r.0 r.1)
+put_queue_line_only item answer buffer = puts_only (queue_line item answer buffer)

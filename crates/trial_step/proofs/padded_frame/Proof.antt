@@ -9,7 +9,7 @@ use lib.ListN.{get_or, set, replicate}
 use lib.Seq.{append_snoc, set_at}
 use borrow.Author.Rules.{rules}
 use Rattle.text.specs.Fields.{bytes_at}
-use Rattle.text.proofs.fields.Laws.{fields-length, fields-suc}
+use Rattle.text.proofs.fields.Laws.{fields_length, fields_suc}
 use Rattle.trial_step.proofs.padded_frame.Statement.{statement}
 use Rattle.trial_step.proofs.padded_frame.Tie as tie
 
@@ -32,9 +32,9 @@ turn bytes i byte h e =
     let there : 12 + 1 * i ≡ 12 + i = omega arith in
     let more =
     ap (λ (p : ℕ). bytes_at i bytes 12 ++ (get_or bytes p 0 ∷ [])) (sym there)
-    ∙ sym (fields-suc (λ (p : ℕ). get_or bytes p 0) 1 i 12) ∙ ap (λ (k : ℕ). bytes_at k bytes 12) (sym (add-one i)) in
+    ∙ sym (fields_suc (λ (p : ℕ). get_or bytes p 0) 1 i 12) ∙ ap (λ (k : ℕ). bytes_at k bytes 12) (sym (add-one i)) in
     ap (λ (k : ℕ). set (bytes_at i bytes 12 ++ replicate k 0) i byte) first
-    ∙ set_at (bytes_at i bytes 12) 0 (replicate (254 - i) 0) byte i (fields-length (λ (p : ℕ). get_or bytes p 0) 1 i 12)
+    ∙ set_at (bytes_at i bytes 12) 0 (replicate (254 - i) 0) byte i (fields_length (λ (p : ℕ). get_or bytes p 0) 1 i 12)
     ∙ ap (λ (b : ℕ). bytes_at i bytes 12 ++ b ∷ replicate (254 - i) 0) e
     ∙ ap (λ (k : ℕ). bytes_at i bytes 12 ++ get_or bytes (12 + i) 0 ∷ replicate k 0) rest
     ∙ sym (append_snoc (bytes_at i bytes 12) (get_or bytes (12 + i) 0) (replicate (255 - (i + 1)) 0))

@@ -17,9 +17,9 @@ use Rattle.text.proofs.Laws.{named}
 use Rattle.node.specs.declared.Node.{Node}
 use Rattle.node_queue.specs.declared.QueueAnswer.{QueueAnswer}
 use Rattle.node_queue.specs.declared.NodeQueue.{NodeQueue}
-use Rattle.node_queue.specs.Queue.{queueNode, queueBytes, QueuedIn}
-use Rattle.trial_step.specs.TrialLine.{queueLine}
-use Rattle.trial_step.specs.Queue.{givenReadings, givenFrames, lentAnswers, QueueStepped}
+use Rattle.node_queue.specs.Queue.{queue_node, queue_bytes, QueuedIn}
+use Rattle.trial_step.specs.TrialLine.{queue_line}
+use Rattle.trial_step.specs.Queue.{given_readings, given_frames, lent_answers, QueueStepped}
 
 drop_min : (a : ℕ) (l : List ℕ) → drop (min a (length l)) l ≡ drop a l
 drop_min a l = go (leb a (length l)) refl
@@ -39,10 +39,10 @@ take_min a l = go (leb a (length l)) refl
         let over = le_of_lt (leb-false a (length l) e) in
         ap (λ (k : ℕ). take k l) (min-eq_right over) ∙ take-length l ∙ sym (take_all a l over)
 
-pub part-is :
+pub part_is :
     (l : List ℕ) (a f : ℕ) {start more : ℕ} → start ≡ min a (length l) → more ≡ min f (length l - start) →
     take (start + more - start) (drop start l) ≡ take f (drop a l)
-part-is l a f {start} {more} s m =
+part_is l a f {start} {more} s m =
     let count : start + more - start ≡ more = omega arith in
     ap (λ (k : ℕ). take k (drop start l)) (count ∙ m ∙ ap (min f) (sym (length-drop start l)))
     ∙ take_min f (drop start l)
@@ -50,16 +50,16 @@ part-is l a f {start} {more} s m =
 
 pub queued :
     (item : ℕ) (bytes : List ℕ) {n : Node} {told before after : List ℕ} {r : NodeQueue} {at end : ℕ} →
-    QueuedIn n (givenReadings bytes) (givenFrames bytes) (lentAnswers bytes) r told →
-    Puts (queueLine item r.answer told) at before end after →
+    QueuedIn n (given_readings bytes) (given_frames bytes) (lent_answers bytes) r told →
+    Puts (queue_line item r.answer told) at before end after →
     QueueStepped n item bytes at before (record { node = r.node; at = end; goes_on = true }) after
 queued item bytes {n} q p =
-    let ts = givenReadings bytes in
-    let fs = givenFrames bytes in
+    let ts = given_readings bytes in
+    let fs = given_frames bytes in
     record {
-      node = q.node ∙ ap (λ (a : QueueAnswer). queueNode a n ts fs) q.answer;
+      node = q.node ∙ ap (λ (a : QueueAnswer). queue_node a n ts fs) q.answer;
       goes_on = refl;
       line =
-          named (λ i. queueLine item (q.answer i)
-          ((q.bytes ∙ ap (λ (a : QueueAnswer). queueBytes a n ts fs (lentAnswers bytes)) q.answer) i)) p;
+          named (λ i. queue_line item (q.answer i)
+          ((q.bytes ∙ ap (λ (a : QueueAnswer). queue_bytes a n ts fs (lent_answers bytes)) q.answer) i)) p;
     }

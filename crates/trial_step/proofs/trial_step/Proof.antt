@@ -6,18 +6,18 @@ use mathlib.Core.List.{List}
 use borrow.Author.Rules.{rules}
 use Rattle.node.specs.declared.Node.{Node}
 use Rattle.bench_record.specs.declared.step.Step.{Step}
-use Rattle.bench_record.proofs.step.Laws.{bad-stepped, call-stepped}
+use Rattle.bench_record.proofs.step.Laws.{bad_stepped, call_stepped}
 use Rattle.trial_step.specs.declared.item.Item.{Item}
-use Rattle.trial_step.specs.TrialLine.{trialLine}
-use Rattle.trial_step.specs.Item.{itemOf}
-use Rattle.trial_step.specs.Step.{givenFrame, lentBuffer, ItemStepped, TrialStepped}
+use Rattle.trial_step.specs.TrialLine.{trial_line}
+use Rattle.trial_step.specs.Item.{item_of}
+use Rattle.trial_step.specs.Step.{given_frame, lent_buffer, ItemStepped, TrialStepped}
 use Rattle.trial_step.proofs.trial_step.Statement.{statement}
 use Rattle.trial_step.proofs.trial_step.Tie as tie
 
-item-is :
+item_is :
     (n : Node) (item : ℕ) (bytes : List ℕ) (at : ℕ) (before : List ℕ) {i : Item} (r : Step) (after : List ℕ) →
-    itemOf bytes ≡ i → ItemStepped i n item bytes at before r after → TrialStepped n item bytes at before r after
-item-is n item bytes at before {i} r after e p =
+    item_of bytes ≡ i → ItemStepped i n item bytes at before r after → TrialStepped n item bytes at before r after
+item_is n item bytes at before {i} r after e p =
     subst (λ (i : Item). ItemStepped i n item bytes at before r after) (sym e) p
 
 item-of-requires : tie.Need-item-of-requires
@@ -38,7 +38,7 @@ returns c =
     let arm = wrote.before.before in
     let read = arm.before.before in
     let a = read.before.before.before.args in
-    item-is a.node a.item a.bytes.now a.at a.out.now _ _
+    item_is a.node a.item a.bytes.now a.at a.out.now _ _
     (sym read.item_of.ensures ∙ arm.enum_told.given.1)
     wrote.renew.ensures
 
@@ -57,7 +57,7 @@ returns-2 c =
     let arm = wrote.before.before in
     let read = arm.before.before in
     let a = read.before.before.before.args in
-    item-is a.node a.item a.bytes.now a.at a.out.now _ _
+    item_is a.node a.item a.bytes.now a.at a.out.now _ _
     (sym read.item_of.ensures ∙ arm.enum-told2.given.1)
     wrote.take-queue.ensures
 
@@ -76,7 +76,7 @@ returns-3 c =
     let arm = wrote.before.before in
     let read = arm.before.before in
     let a = read.before.before.before.args in
-    item-is a.node a.item a.bytes.now a.at a.out.now _ _
+    item_is a.node a.item a.bytes.now a.at a.out.now _ _
     (sym read.item_of.ensures ∙ arm.enum-told3.given.1)
     wrote.take-one.ensures
 
@@ -106,9 +106,9 @@ returns-4 c =
     let told = asked.before in
     let read = told.before.before in
     let a = read.before.before.before.args in
-    item-is a.node a.item a.bytes.now a.at a.out.now _ _
+    item_is a.node a.item a.bytes.now a.at a.out.now _ _
     (sym read.item_of.ensures ∙ told.enum-told4.given.1)
-    (bad-stepped (trialLine a.item) (givenFrame a.bytes.now) (lentBuffer a.bytes.now) a.node a.item
+    (bad_stepped (trial_line a.item) (given_frame a.bytes.now) (lent_buffer a.bytes.now) a.node a.item
     (sym asked.asked_by.ensures ∙ arm.enum-told5.given.1)
     wrote.bad-record.ensures)
 
@@ -126,9 +126,9 @@ returns-5 c =
     let told = asked.before in
     let read = told.before.before in
     let a = read.before.before.before.args in
-    item-is a.node a.item a.bytes.now a.at a.out.now _ _
+    item_is a.node a.item a.bytes.now a.at a.out.now _ _
     (sym read.item_of.ensures ∙ told.enum-told4.given.1)
-    (call-stepped (trialLine a.item) (givenFrame a.bytes.now) (lentBuffer a.bytes.now) a.node a.item
+    (call_stepped (trial_line a.item) (given_frame a.bytes.now) (lent_buffer a.bytes.now) a.node a.item
     (sym asked.asked_by.ensures ∙ arm.request.given.1)
     wrote.ask.ensures)
 

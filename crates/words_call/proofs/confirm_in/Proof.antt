@@ -6,9 +6,9 @@ use mathlib.Core.Bool.{true, false}
 use lib.Dec.{eqb}
 use lib.ListN.{length}
 use borrow.Author.Tests.{eq-eqb, ne_eqb}
-use Rattle.master_confirm.specs.Confirm.{confirmNumber}
+use Rattle.master_confirm.specs.Confirm.{confirm_number}
 use Rattle.call_confirm.specs.declared.ConfirmCall.{ConfirmCall}
-use Rattle.words_call.specs.Calls.{confirmBy}
+use Rattle.words_call.specs.Calls.{confirm_by}
 use borrow.Author.Rules.{rules}
 use Rattle.words_call.proofs.confirm_in.Statement.{statement}
 use Rattle.words_call.proofs.confirm_in.Tie as tie
@@ -16,15 +16,15 @@ use Rattle.words_call.proofs.confirm_in.Tie as tie
 abbrev called : tie.After-number → ConfirmCall
 called n =
     let a = n.before.before.before.before.before.before.before.before.before.args in
-    confirmBy a.node.now a.domain a.t a.counter (length a.out.now)
+    confirm_by a.node.now a.domain a.t a.counter (length a.out.now)
 
 as_called : (n : tie.After-number) → n.before.before.before.confirm-call.result ≡ called n
 as_called n =
     let call = n.before.before.before in
     call.confirm-call.ensures.call ∙ rw call.before.before.record-in.ensures
 
-answered : (n : tie.After-number) → n.number.result ≡ confirmNumber (called n).answer
-answered n = n.number.ensures ∙ ap (λ (r : ConfirmCall). confirmNumber r.answer) (as_called n)
+answered : (n : tie.After-number) → n.number.result ≡ confirm_number (called n).answer
+answered n = n.number.ensures ∙ ap (λ (r : ConfirmCall). confirm_number r.answer) (as_called n)
 
 element-copy-out-t15 : tie.Need-element-copy-out-t15
 element-copy-out-t15 c = search rules
@@ -52,10 +52,10 @@ returns c =
     let arm = c.before.before.before.before in
     let n = arm.before in
     let call = n.before.before.before in
-    let done : eqb (confirmNumber (called n).answer) 0 ≡ true = eq-eqb _ 0 (sym (answered n) ∙ arm.if1.true) in
+    let done : eqb (confirm_number (called n).answer) 0 ≡ true = eq-eqb _ 0 (sym (answered n) ∙ arm.if1.true) in
     record {
       number = answered n;
-      words-after = rw (done, c.put-sent.ensures, as_called n);
+      words_after_lem = rw (done, c.put_sent.ensures, as_called n);
       bytes = call.confirm-call.ensures.bytes ∙ rw (as_called n, call.before.before.record-in.ensures);
     }
 
@@ -66,11 +66,11 @@ returns-2 : tie.Need-returns-2
 returns-2 c =
     let n = c.before in
     let call = n.before.before.before in
-    let failed : eqb (confirmNumber (called n).answer) 0 ≡ false =
+    let failed : eqb (confirm_number (called n).answer) 0 ≡ false =
     ne_eqb _ 0 (λ e. c.if1.false (answered n ∙ e)) in
     record {
       number = answered n;
-      words-after = rw failed;
+      words_after_lem = rw failed;
       bytes = call.confirm-call.ensures.bytes ∙ rw (as_called n, call.before.before.record-in.ensures);
     }
 

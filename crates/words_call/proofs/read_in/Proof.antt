@@ -2,7 +2,7 @@
 -- Assumes nothing.
 use mathlib.Core.Path.{◌≡◌, sym, ap, ◌∙◌}
 use Rattle.call_read.specs.declared.ReadAnswer.{ReadAnswer}
-use Rattle.call_read.specs.Answer.{readNumber}
+use Rattle.call_read.specs.Answer.{read_number}
 use Rattle.words_call.specs.Calls.{read_by}
 use borrow.Author.Rules.{rules}
 use Rattle.words_call.proofs.read_in.Statement.{statement}
@@ -41,13 +41,13 @@ returns : tie.Need-returns
 returns c =
     let known = c.before.before in
     let e = sym (as-asked known.before.before) ∙ known.refusal.given.1 in
-    record { number = c.number.ensures ∙ ap readNumber (sym e); shows = rw e }
+    record { number = c.number.ensures ∙ ap read_number (sym e); shows = rw e }
 
 returns-2 : tie.Need-returns-2
 returns-2 c =
     let known = c.before.before.before in
     let e = sym (as-asked known.before.before) ∙ known.read.given.1 in
-    record { number = sym (ap readNumber e); shows = c.put-shown.ensures ∙ rw e }
+    record { number = sym (ap read_number e); shows = c.put-shown.ensures ∙ rw e }
 
 pub read-in-spec : {M : Type 1} → statement M
 read-in-spec =

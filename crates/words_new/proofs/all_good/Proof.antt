@@ -5,17 +5,17 @@ use Prim.Native.Nat.{◌-◌, ◌≤◌}
 use mathlib.Core.Path.{◌≡◌, refl, sym, ap, ◌∙◌}
 use native.Mathlib.Omega.{arith}
 use borrow.Author.Tests.{not-true, not-false}
-use Rattle.settings.specs.Ranges.{isGood}
-use Rattle.settings.specs.Node.{places, allGood}
-use Rattle.words_new.specs.New.{givenAt, nodeGiven}
-use Rattle.words_new.proofs.Left.{left, left-none, good-stop, good-on}
+use Rattle.settings.specs.Ranges.{is_good}
+use Rattle.settings.specs.Node.{places, all_good}
+use Rattle.words_new.specs.New.{given_at, node_given}
+use Rattle.words_new.proofs.Left.{left, left_none, good_stop, good_on}
 use borrow.Author.Rules.{rules}
 use Rattle.words_new.proofs.all_good.Statement.{statement}
 use Rattle.words_new.proofs.all_good.Tie as tie
 
 abbrev invariant-loop : tie.invariant-loop
 invariant-loop given d₀ d =
-    (d ≤ places) × (allGood (left places (givenAt given) d) ≡ allGood (nodeGiven given).domains)
+    (d ≤ places) × (all_good (left places (given_at given) d) ≡ all_good (node_given given).domains)
 
 abbrev decreases-loop : tie.decreases-loop
 decreases-loop given d₀ d = places - d
@@ -32,8 +32,8 @@ is-good-requires c κs = search rules
 returns : tie.Need-returns invariant-loop decreases-loop
 returns c =
     let at = c.before.before.before.before in
-    good-stop places (givenAt at.before.before.args.given.now) at.loop.d _ _ (omega arith)
-    (c.before.is-good.ensures ∙ ap isGood c.before.before.given-at.ensures) at.loop.invariant.1
+    good_stop places (given_at at.before.before.args.given.now) at.loop.d _ _ (omega arith)
+    (c.before.is-good.ensures ∙ ap is_good c.before.before.given-at.ensures) at.loop.invariant.1
     (not-true _ c.if1.true)
 
 add-d : tie.Need-overflow-add-d invariant-loop decreases-loop
@@ -46,16 +46,16 @@ loop-again : tie.Need-loop-preserved invariant-loop decreases-loop
 loop-again c =
     let at = c.before.before.before.before in (
       omega arith,
-      good-on places (givenAt at.before.before.args.given.now) at.loop.d _ _ (omega arith)
-          (c.before.is-good.ensures ∙ ap isGood c.before.before.given-at.ensures) at.loop.invariant.1
+      good_on places (given_at at.before.before.args.given.now) at.loop.d _ _ (omega arith)
+          (c.before.is-good.ensures ∙ ap is_good c.before.before.given-at.ensures) at.loop.invariant.1
           (not-false _ c.if1.false),
     )
 
 returns-2 : tie.Need-returns-2 invariant-loop decreases-loop
 returns-2 c =
     let at = c.before in
-    let f = givenAt at.before.before.args.given.now in
-    sym (ap allGood (left-none places f at.loop.d (omega arith))) ∙ at.loop.invariant.1
+    let f = given_at at.before.before.args.given.now in
+    sym (ap all_good (left_none places f at.loop.d (omega arith))) ∙ at.loop.invariant.1
 
 pub all-good-spec : {M : Type 1} → statement M
 all-good-spec =

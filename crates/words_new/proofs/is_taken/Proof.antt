@@ -4,14 +4,14 @@ use Prim.Native.Nat.{ℕ}
 use mathlib.Core.Path.{◌∙◌}
 use native.Mathlib.Omega.{arith}
 use borrow.Author.Tests.{le-leb, lt-leb}
-use Rattle.words_new.specs.New.{nodeGiven}
+use Rattle.words_new.specs.New.{node_given}
 use borrow.Author.Rules.{rules}
 use Rattle.words_new.proofs.is_taken.Statement.{statement}
 use Rattle.words_new.proofs.is_taken.Tie as tie
 
 -- S, as it is given
 abbrev syncs : tie.After-syncs-of → ℕ
-syncs c = (nodeGiven c.before.before.args.given.now).syncs_per_cycle
+syncs c = (node_given c.before.before.args.given.now).syncs_per_cycle
 
 syncs-of-requires : tie.Need-syncs-of-requires
 syncs-of-requires c κs = search rules
@@ -34,7 +34,7 @@ returns-3 : tie.Need-returns-3
 returns-3 c =
     let told = c.before.before.before in
     let e = told.syncs-of.ensures in
-    c.all-good.ensures
+    c.all_good_lem.ensures
     ∙ rw (le-leb 1 (syncs told) (omega (arith, e)), le-leb (syncs told) 16 (omega (arith, e)))
 
 pub is-taken-spec : {M : Type 1} → statement M

@@ -2,7 +2,7 @@
 -- Assumes nothing.
 use mathlib.Core.Path.{sym, ◌∙◌}
 use mathlib.Core.Bool.{true, false}
-use Rattle.words_new.proofs.Judged.{judged-number, judged-words}
+use Rattle.words_new.proofs.Judged.{judged_number, judged_words}
 use borrow.Author.Rules.{rules}
 use Rattle.words_new.proofs.new_in.Statement.{statement}
 use Rattle.words_new.proofs.new_in.Tie as tie
@@ -21,9 +21,9 @@ returns c =
     let judged = c.before.before.before.before in
     let given = judged.before.before.args.given.now in
     record {
-      number = judged-number given true (sym c.if1.true ∙ judged.is-taken.ensures);
-      words-after =
-          c.before.put-node.ensures ∙ judged-words given judged.is-taken.result judged.is-taken.ensures;
+      number = judged_number given true (sym c.if1.true ∙ judged.is_taken_lem.ensures);
+      words_after_lem =
+          c.before.put_node.ensures ∙ judged_words given judged.is_taken_lem.result judged.is_taken_lem.ensures;
     }
 
 returns-2 : tie.Need-returns-2
@@ -33,8 +33,8 @@ returns-2 c =
     let given = judged.before.before.args.given.now in
     record {
       number =
-          c.number.ensures ∙ judged-number given false (sym c.before.if1.false ∙ judged.is-taken.ensures);
-      words-after = put.put-node.ensures ∙ judged-words given judged.is-taken.result judged.is-taken.ensures;
+          c.number.ensures ∙ judged_number given false (sym c.before.if1.false ∙ judged.is_taken_lem.ensures);
+      words_after_lem = put.put_node.ensures ∙ judged_words given judged.is_taken_lem.result judged.is_taken_lem.ensures;
     }
 
 pub new-in-spec : {M : Type 1} → statement M

@@ -5,8 +5,8 @@ use mathlib.Core.Path.{◌≡◌, ap, ◌∙◌}
 use mathlib.Core.List.{List, [], ◌∷◌, ◌++◌}
 use native.Mathlib.Omega.{arith}
 use lib.ListN.{length, take, set, length-set}
-use Rattle.node_words.specs.Node.{headWord}
-use Rattle.words_new.specs.Made.{madeSyncs}
+use Rattle.node_words.specs.Node.{head_word}
+use Rattle.words_new.specs.Made.{made_syncs}
 use borrow.Author.Rules.{rules}
 use Rattle.words_new.proofs.put_node.Statement.{statement}
 use Rattle.words_new.proofs.put_node.Tie as tie
@@ -40,8 +40,8 @@ returns : tie.Need-returns
 returns c =
     let made = c.before.before.before.before in
     let a = made.before.before.before.before.args in
-    let syncs = madeSyncs a.taken a.given.now in
-    headed a.node.now _ _ 0 made.packed.result (headWord syncs 0) (omega arith)
+    let syncs = made_syncs a.taken a.given.now in
+    headed a.node.now _ _ 0 made.packed.result (head_word syncs 0) (omega arith)
     (rw (made.packed.ensures, made.before.made-syncs.ensures)) c.before.before.put-records.ensures
 
 pub put-node-spec : {M : Type 1} → statement M

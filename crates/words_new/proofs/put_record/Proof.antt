@@ -6,7 +6,7 @@ use mathlib.Core.List.{List, ◌++◌, append-nil}
 use native.Mathlib.Omega.{arith}
 use lib.ListN.{length, drop, length-append, drop_of_length-le}
 use lib.Seq.{length-take-le, take_at, drop_at}
-use Rattle.node_words.specs.Words.{withPart}
+use Rattle.node_words.specs.Words.{with_part}
 use borrow.Author.Rules.{rules}
 use Rattle.words_new.proofs.put_record.Statement.{statement}
 use Rattle.words_new.proofs.put_record.Tie as tie
@@ -14,7 +14,7 @@ use Rattle.words_new.proofs.put_record.Tie as tie
 slice-relend-prefix-put-eleven : tie.Need-slice-relend-prefix-put-eleven
 slice-relend-prefix-put-eleven c = search rules
 
-halves : (a b w : List ℕ) → length a ≡ 11 → withPart 11 (length (a ++ w) - 11) (a ++ w) b ≡ a ++ b
+halves : (a b w : List ℕ) → length a ≡ 11 → with_part 11 (length (a ++ w) - 11) (a ++ w) b ≡ a ++ b
 halves a b w e =
     let n = length (a ++ w) - 11 in
     let few : length w ≤ n = omega (arith, length-append a w) in

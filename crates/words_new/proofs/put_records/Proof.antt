@@ -8,10 +8,10 @@ use native.Mathlib.Omega.{arith}
 use lib.ListN.{length, take, replicate}
 use Rattle.settings.specs.Node.{places}
 use Rattle.domain.specs.Fresh.{fresh_of}
-use Rattle.node_words.specs.Words.{nodeSize, settingsAt, withPart}
-use Rattle.node_words.specs.Node.{recordWords, recordsWords}
-use Rattle.words_new.specs.Made.{madeAt, madeNode}
-use Rattle.words_new.proofs.Left.{leftWords, words-on, words-all}
+use Rattle.node_words.specs.Words.{node_size, settings_at, with_part}
+use Rattle.node_words.specs.Node.{record_words, records_words}
+use Rattle.words_new.specs.Made.{made_at, made_node}
+use Rattle.words_new.proofs.Left.{left_words, words_on, words_all}
 use borrow.Author.Rules.{rules}
 use Rattle.words_new.proofs.put_records.Statement.{statement}
 use Rattle.words_new.proofs.put_records.Tie as tie
@@ -19,9 +19,9 @@ use Rattle.words_new.proofs.put_records.Tie as tie
 abbrev invariant-loop : tie.invariant-loop
 invariant-loop node₀ given taken d₀ node d =
     (d ≤ places)
-    × (length node ≡ nodeSize)
-    × (take (settingsAt d) node ++ leftWords places (madeAt taken given) d
-    ≡ take 2 node₀ ++ recordsWords (madeNode taken given).domains)
+    × (length node ≡ node_size)
+    × (take (settings_at d) node ++ left_words places (made_at taken given) d
+    ≡ take 2 node₀ ++ records_words (made_node taken given).domains)
 
 abbrev decreases-loop : tie.decreases-loop
 decreases-loop node₀ given taken d₀ node d = places - d
@@ -68,17 +68,17 @@ loop-again c =
     let held = stored.before.before.held_at.ensures in
     let at = stored.before.before.before.before in
     let a = at.before.before.before.args in
-    let f = madeAt a.taken a.given.now in
+    let f = made_at a.taken a.given.now in
     let node = at.loop.node in
     let d = at.loop.d in
     let part = stored.put_record.new.0 in
-    let size : settingsAt d + 22 - settingsAt d ≡ 22 = omega arith in
-    let filled : part ≡ recordWords (fresh_of d (f d)) =
+    let size : settings_at d + 22 - settings_at d ≡ 22 = omega arith in
+    let filled : part ≡ record_words (fresh_of d (f d)) =
     stored.put_record.ensures ∙ ap (λ (l : List ℕ). l ++ replicate 11 0) held in (
       omega arith,
       c.before.node.given.1 ∙ at.loop.invariant.1,
-      ap (λ (k : ℕ). take (settingsAt (d + 1)) (withPart (settingsAt d) k node part) ++ leftWords places f (d + 1)) size
-          ∙ words-on places f d node _ at.loop.invariant.2 part (omega arith) (omega arith) filled,
+      ap (λ (k : ℕ). take (settings_at (d + 1)) (with_part (settings_at d) k node part) ++ left_words places f (d + 1)) size
+          ∙ words_on places f d node _ at.loop.invariant.2 part (omega arith) (omega arith) filled,
     )
 
 same_length : tie.Need-same-length invariant-loop decreases-loop
@@ -88,8 +88,8 @@ returns : tie.Need-returns invariant-loop decreases-loop
 returns c =
     let at = c.before in
     let a = at.before.before.before.args in
-    let f = madeAt a.taken a.given.now in
-    words-all places f at.loop.d at.loop.node _ at.loop.invariant.2 (omega arith) (omega arith)
+    let f = made_at a.taken a.given.now in
+    words_all places f at.loop.d at.loop.node _ at.loop.invariant.2 (omega arith) (omega arith)
 
 pub put-records-spec : {M : Type 1} → statement M
 put-records-spec =

@@ -21,7 +21,7 @@ returns-2 c =
     let own = c.before.before in
     rw (
       eq-eqb _ _ (rw own.before.domain.ensures at own.if1.false),
-      sym c.before.is-in.ensures ∙ not-true _ c.if2.true,
+      sym c.before.stands_in.ensures ∙ not-true _ c.if2.true,
     )
 
 returns-3 : tie.Need-returns-3
@@ -29,7 +29,7 @@ returns-3 c =
     let own = c.before.before in
     rw (
       eq-eqb _ _ (rw own.before.domain.ensures at own.if1.false),
-      sym c.before.is-in.ensures ∙ not-false _ c.if2.false,
+      sym c.before.stands_in.ensures ∙ not-false _ c.if2.false,
     )
 
 pub values-for-spec : {M : Type 1} → statement M

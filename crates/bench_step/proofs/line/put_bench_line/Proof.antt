@@ -3,7 +3,7 @@
 use mathlib.Core.Path.{ap}
 use borrow.Author.Rules.{rules}
 use Rattle.text.proofs.Laws.{then, named}
-use Rattle.text.specs.Lines.{answerText}
+use Rattle.text.specs.Lines.{answer_text}
 use Rattle.bench_step.proofs.line.put_bench_line.Statement.{statement}
 use Rattle.bench_step.proofs.line.put_bench_line.Tie as tie
 
@@ -29,7 +29,7 @@ returns c =
     let first = middle.before.before.before.before in
     let number = first.before in
     let item = number.before.before.before.before.args.item in
-    let answer = named (ap (answerText item) number.number.ensures) first.put-answer.ensures in
+    let answer = named (ap (answer_text item) number.number.ensures) first.put-answer.ensures in
     then (then answer middle.put-values.ensures) last.put_byte.ensures
 
 pub put-bench-line-spec : {M : Type 1} → statement M

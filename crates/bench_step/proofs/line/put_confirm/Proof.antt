@@ -3,7 +3,7 @@
 use mathlib.Core.Path.{sym, ap}
 use borrow.Author.Rules.{rules}
 use Rattle.text.proofs.Laws.{then, named, nothing}
-use Rattle.bench_step.specs.BenchLine.{benchConfirm}
+use Rattle.bench_step.specs.BenchLine.{bench_confirm}
 use Rattle.bench_step.proofs.line.put_confirm.Statement.{statement}
 use Rattle.bench_step.proofs.line.put_confirm.Tie as tie
 
@@ -22,7 +22,7 @@ put-hex-requires c κs = search rules
 returns : tie.Need-returns
 returns c =
     let start = c.before.before.before.before in
-    named (ap (λ a. benchConfirm a start.args.sent.now) (sym c.enum_told.given.1)) nothing
+    named (ap (λ a. bench_confirm a start.args.sent.now) (sym c.enum_told.given.1)) nothing
 
 same_length : tie.Need-same-length
 same_length c = search rules
@@ -34,7 +34,7 @@ returns-2 c =
     let arm = first.before.before in
     let start = arm.before.before.before.before in
     named
-    (ap (λ a. benchConfirm a start.args.sent.now) (sym arm.enum-told2.given.1))
+    (ap (λ a. bench_confirm a start.args.sent.now) (sym arm.enum-told2.given.1))
     (then first.put_byte.ensures last.put-hex.ensures)
 
 pub put-confirm-spec : {M : Type 1} → statement M

@@ -3,8 +3,8 @@
 use mathlib.Core.Path.{sym, ap}
 use borrow.Author.Rules.{rules}
 use Rattle.text.proofs.Laws.{then, named, nothing}
-use Rattle.bench_step.specs.BenchLine.{benchCycle}
-use Rattle.bench_step.proofs.line.Frames.{no-frame, one-frame}
+use Rattle.bench_step.specs.BenchLine.{bench_cycle}
+use Rattle.bench_step.proofs.line.Frames.{no_frame, one_frame}
 use Rattle.bench_step.proofs.line.put_cycle.Statement.{statement}
 use Rattle.bench_step.proofs.line.put_cycle.Tie as tie
 
@@ -30,10 +30,10 @@ returns c =
     let arm = first.before.before.before in
     let sent = arm.before.before.before.before.args.sent.now in
     named
-    (ap (λ a. benchCycle a sent) (sym arm.cycle.given.1))
+    (ap (λ a. bench_cycle a sent) (sym arm.cycle.given.1))
     (then
     (then first.put_byte.ensures second.put-decimal.ensures)
-    (named (no-frame sent c.if1.true) nothing))
+    (named (no_frame sent c.if1.true) nothing))
 
 put-byte-requires-2 : tie.Need-put-byte-requires-2
 put-byte-requires-2 c κs = search rules
@@ -44,7 +44,7 @@ put-hex-requires c κs = search rules
 returns-2 : tie.Need-returns-2
 returns-2 c =
     let start = c.before.before.before.before in
-    named (ap (λ a. benchCycle a start.args.sent.now) (sym c.enum_told.given.1)) nothing
+    named (ap (λ a. bench_cycle a start.args.sent.now) (sym c.enum_told.given.1)) nothing
 
 same-length-2 : tie.Need-same-length-2
 same-length-2 c = search rules
@@ -59,10 +59,10 @@ returns-3 c =
     let arm = first.before.before.before in
     let sent = arm.before.before.before.before.args.sent.now in
     named
-    (ap (λ a. benchCycle a sent) (sym arm.cycle.given.1))
+    (ap (λ a. bench_cycle a sent) (sym arm.cycle.given.1))
     (then
     (then first.put_byte.ensures second.put-decimal.ensures)
-    (named (one-frame sent _ test.if1.false) (then third.put-byte2.ensures last.put-hex.ensures)))
+    (named (one_frame sent _ test.if1.false) (then third.put-byte2.ensures last.put-hex.ensures)))
 
 pub put-cycle-spec : {M : Type 1} → statement M
 put-cycle-spec =

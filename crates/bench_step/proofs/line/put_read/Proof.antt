@@ -3,7 +3,7 @@
 use mathlib.Core.Path.{sym, ap}
 use borrow.Author.Rules.{rules}
 use Rattle.text.proofs.Laws.{named, nothing}
-use Rattle.bench_step.specs.BenchLine.{benchRead}
+use Rattle.bench_step.specs.BenchLine.{bench_read}
 use Rattle.bench_step.proofs.line.put_read.Statement.{statement}
 use Rattle.bench_step.proofs.line.put_read.Tie as tie
 
@@ -18,7 +18,7 @@ put-shown-requires c κs = search rules
 
 returns : tie.Need-returns
 returns c =
-    named (ap benchRead (sym c.enum_told.given.1)) nothing
+    named (ap bench_read (sym c.enum_told.given.1)) nothing
 
 same_length : tie.Need-same-length
 same_length c = search rules
@@ -27,7 +27,7 @@ returns-2 : tie.Need-returns-2
 returns-2 c =
     let called = c.before.before in
     let arm = called.before.before.before in
-    named (ap benchRead (sym arm.read.given.1)) called.put-shown.ensures
+    named (ap bench_read (sym arm.read.given.1)) called.put-shown.ensures
 
 pub put-read-spec : {M : Type 1} → statement M
 put-read-spec =

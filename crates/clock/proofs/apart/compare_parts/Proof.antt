@@ -3,7 +3,7 @@
 -- Assumes nothing.
 use native.Mathlib.Omega.{arith}
 use borrow.Author.Rules.{rules}
-use Rattle.clock.specs.Time.{timeOf}
+use Rattle.clock.specs.Time.{time_of}
 use Rattle.clock.proofs.apart.Compared.{ahead, behind}
 use Rattle.clock.proofs.apart.compare_parts.Statement.{statement}
 use Rattle.clock.proofs.apart.compare_parts.Tie as tie
@@ -53,22 +53,22 @@ held-span-requires-4 c κs = search rules
 returns : tie.Need-returns
 returns c =
     let args = c.before.before.before.before.before.before.before.args in
-    ahead args.a (timeOf args.seconds args.nanoseconds) _ (omega arith)
+    ahead args.a (time_of args.seconds args.nanoseconds) _ (omega arith)
 
 returns-2 : tie.Need-returns-2
 returns-2 c =
     let args = c.before.before.before.before.before.before.before.args in
-    behind args.a (timeOf args.seconds args.nanoseconds) _ (omega arith)
+    behind args.a (time_of args.seconds args.nanoseconds) _ (omega arith)
 
 returns-3 : tie.Need-returns-3
 returns-3 c =
     let args = c.before.before.before.before.before.before.before.args in
-    ahead args.a (timeOf args.seconds args.nanoseconds) _ (omega arith)
+    ahead args.a (time_of args.seconds args.nanoseconds) _ (omega arith)
 
 returns-4 : tie.Need-returns-4
 returns-4 c =
     let args = c.before.before.before.before.before.before.before.args in
-    behind args.a (timeOf args.seconds args.nanoseconds) _ (omega arith)
+    behind args.a (time_of args.seconds args.nanoseconds) _ (omega arith)
 
 pub compare-parts-spec : {M : Type 1} → statement M
 compare-parts-spec =

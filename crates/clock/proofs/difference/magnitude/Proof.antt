@@ -10,7 +10,7 @@ use mir.Syntax.{w64}
 use mir.Val.{SFits, to_z, of_z}
 use mir.ValLaws.{to_z-of_z}
 use borrow.Author.Rules.{rules}
-use Rattle.clock.proofs.difference.Signed.{tested, below, not-below, back}
+use Rattle.clock.proofs.difference.Signed.{tested, below, not_below, back}
 use Rattle.clock.proofs.difference.magnitude.Statement.{statement}
 use Rattle.clock.proofs.difference.magnitude.Tie as tie
 
@@ -43,7 +43,7 @@ add-result c =
 cast-result-2 : tie.Need-overflow-cast-result-2
 cast-result-2 c =
     let d = c.before.args.d in
-    let e = not-below d (tested d c.before.ranges.d _ c.if1.false) in
+    let e = not_below d (tested d c.before.ranges.d _ c.if1.false) in
     let f = rw e at c.before.ranges.d in
     rw (to_z-of_z w64 d c.before.ranges.d, e) (tt, record { fits = omega (arith, f.sfits) })
 

@@ -12,12 +12,12 @@ use mir.Syntax.{w64}
 use mir.ValLaws.{to_z-of_z}
 use borrow.Author.Rules.{rules}
 use borrow.Author.Tests.{ltb-true}
-use Rattle.clock.specs.Difference.{minusExceeds}
-use Rattle.clock.proofs.difference.Signed.{tested, not-below}
+use Rattle.clock.specs.Difference.{minus_exceeds}
+use Rattle.clock.proofs.difference.Signed.{tested, not_below}
 use Rattle.clock.proofs.difference.minus_exceeds.Statement.{statement}
 use Rattle.clock.proofs.difference.minus_exceeds.Tie as tie
 
-compared : (z : ℤ) (x : ℕ) → lt_z z (pos 0) ≡ true → ltb x (nat_abs z) ≡ minusExceeds z x
+compared : (z : ℤ) (x : ℕ) → lt_z z (pos 0) ≡ true → ltb x (nat_abs z) ≡ minus_exceeds z x
 compared (pos m) x e = absurd (omega (arith, ltb-true m 0 e))
 compared (negsuc m) x e = refl
 
@@ -34,7 +34,7 @@ returns c =
 returns-2 : tie.Need-returns-2
 returns-2 c =
     let d = c.before.args.d in
-    rw (not-below d (tested d c.before.ranges.d _ c.if1.false))
+    rw (not_below d (tested d c.before.ranges.d _ c.if1.false))
 
 pub minus-exceeds-spec : {M : Type 1} → statement M
 minus-exceeds-spec = tie.close (tie.spec magnitude-requires returns returns-2)

@@ -6,10 +6,10 @@ use lib.IntN.{pos, negsuc}
 use mir.Syntax.{w64}
 use mir.ValLaws.{to_z_pos, to_z-of_z}
 use borrow.Author.Rules.{rules}
-use Rattle.clock.proofs.apart.Compared.{AheadBy, BehindBy, told-ahead, told-behind}
+use Rattle.clock.proofs.apart.Compared.{AheadBy, BehindBy, told_ahead, told_behind}
 use native.Mathlib.Omega.{arith}
 use borrow.Author.Tests.{le-ltb, lt-ltb}
-use Rattle.clock.specs.Time.{timeOf}
+use Rattle.clock.specs.Time.{time_of}
 use Rattle.clock.proofs.difference.Signed.{minus_one}
 use Rattle.clock.proofs.difference.minus_parts.Statement.{statement}
 use Rattle.clock.proofs.difference.minus_parts.Tie as tie
@@ -19,8 +19,8 @@ m c = c.before.m.given.0.0
 
 told :
     (c : tie.After-known-told) → let a = c.before.before.before.before.args in
-    AheadBy a.a (timeOf a.seconds a.nanoseconds) (m c)
-told c = told-ahead _ _ (m c) (sym c.before.m.given.1 ∙ c.before.before.before.compare-parts.ensures)
+    AheadBy a.a (time_of a.seconds a.nanoseconds) (m c)
+told c = told_ahead _ _ (m c) (sym c.before.m.given.1 ∙ c.before.before.before.compare-parts.ensures)
 
 fits : (c : tie.After-known-told) → m c < 2 ^ 63
 fits c = let h = told c in omega arith
@@ -30,8 +30,8 @@ m2 c = c.before.m2.given.0.0
 
 told2 :
     (c : tie.After-known-told2) → let a = c.before.before.before.before.args in
-    BehindBy a.a (timeOf a.seconds a.nanoseconds) (m2 c)
-told2 c = told-behind _ _ (m2 c) (sym c.before.m2.given.1 ∙ c.before.before.before.compare-parts.ensures)
+    BehindBy a.a (time_of a.seconds a.nanoseconds) (m2 c)
+told2 c = told_behind _ _ (m2 c) (sym c.before.m2.given.1 ∙ c.before.before.before.compare-parts.ensures)
 
 fits2 : (c : tie.After-known-told2) → m2 c < 2 ^ 63
 fits2 c = let h = told2 c in omega arith

@@ -8,9 +8,9 @@ use borrow.Author.Rules.{rules}
 use Prim.Native.Nat.{ℕ}
 use Rattle.clock.specs.declared.time.GlobalTime.{GlobalTime}
 use Rattle.clock.specs.declared.difference.TimeOrder.TheVariants.{Earlier, Same, Later}
-use Rattle.clock.specs.Time.{nanosecondsOf}
+use Rattle.clock.specs.Time.{nanoseconds_of}
 use Rattle.clock.specs.Difference.{order_of}
-use Rattle.clock.proofs.apart.Compared.{AheadBy, BehindBy, told-ahead, told-behind}
+use Rattle.clock.proofs.apart.Compared.{AheadBy, BehindBy, told_ahead, told_behind}
 use Rattle.clock.proofs.difference.order.Statement.{statement}
 use Rattle.clock.proofs.difference.order.Tie as tie
 
@@ -25,31 +25,31 @@ enum-known-m c = search rules
 
 module _ (a b : GlobalTime) (m : ℕ) where
   earlier : BehindBy a b m → Earlier ≡ order_of a b
-  earlier h = rw (lt-ltb (nanosecondsOf a) (nanosecondsOf b) h.from)
+  earlier h = rw (lt-ltb (nanoseconds_of a) (nanoseconds_of b) h.from)
 
   same : AheadBy a b m → m ≡ 0 → Same ≡ order_of a b
   same h e =
       rw (
-        le-ltb (nanosecondsOf a) (nanosecondsOf b) h.from,
-        le-ltb (nanosecondsOf b) (nanosecondsOf a) (omega arith),
+        le-ltb (nanoseconds_of a) (nanoseconds_of b) h.from,
+        le-ltb (nanoseconds_of b) (nanoseconds_of a) (omega arith),
       )
 
   later : AheadBy a b m → (m ≡ 0 → ⊥) → Later ≡ order_of a b
   later h e =
       rw (
-        le-ltb (nanosecondsOf a) (nanosecondsOf b) h.from,
-        lt-ltb (nanosecondsOf b) (nanosecondsOf a) (omega arith),
+        le-ltb (nanoseconds_of a) (nanoseconds_of b) h.from,
+        lt-ltb (nanoseconds_of b) (nanoseconds_of a) (omega arith),
       )
 
 returns : tie.Need-returns
 returns c =
     let a = c.before.before.before.args in
-    earlier a.a a.b _ (told-behind _ _ _ (sym c.enum_told.given.1 ∙ c.before.before.compare.ensures))
+    earlier a.a a.b _ (told_behind _ _ _ (sym c.enum_told.given.1 ∙ c.before.before.compare.ensures))
 
 abbrev told :
     (c : tie.After-known-told) → let a = c.before.before.before.before.args in
     AheadBy a.a a.b c.before.m.given.0.0
-told c = told-ahead _ _ _ (sym c.before.m.given.1 ∙ c.before.before.before.compare.ensures)
+told c = told_ahead _ _ _ (sym c.before.m.given.1 ∙ c.before.before.before.compare.ensures)
 
 returns-2 : tie.Need-returns-2
 returns-2 c = same _ _ _ (told c.before) (omega (arith, c.if1.true))

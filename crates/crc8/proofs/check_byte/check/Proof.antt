@@ -2,7 +2,7 @@
 -- the remainder over the bytes. Assumes nothing.
 use mathlib.Core.List.{foldl-append}
 use borrow.Author.Rules.{rules}
-use Rattle.crc8.specs.Crc8.{checkOf, crcOf}
+use Rattle.crc8.specs.Crc8.{check_of, crc_of}
 use Rattle.crc8.proofs.check_byte.check.Statement.{statement}
 use Rattle.crc8.proofs.check_byte.check.Tie as tie
 
@@ -16,7 +16,7 @@ step-requires : tie.Need-step-requires
 step-requires c κs = search rules
 
 returns : tie.Need-returns
-unfolding checkOf crcOf
+unfolding check_of crc_of
 returns c = rw (c.step.ensures, c.before.remainder.ensures, foldl-append)
 
 pub check-spec : {M : Type 1} → statement M

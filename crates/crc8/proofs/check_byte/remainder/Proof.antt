@@ -6,13 +6,13 @@ use native.Mathlib.Numerals.{add-one}
 use lib.ListN.{length, drop, drop_of_length-le}
 use lib.Seq.{drop-cons}
 use borrow.Author.Rules.{rules}
-use Rattle.crc8.specs.Crc8.{remainderOf}
+use Rattle.crc8.specs.Crc8.{remainder_of}
 use Rattle.crc8.proofs.check_byte.remainder.Statement.{statement}
 use Rattle.crc8.proofs.check_byte.remainder.Tie as tie
 
 abbrev invariant-loop : tie.invariant-loop
 invariant-loop table start bytes r₀ i₀ r i =
-    (i ≤ length bytes) × (remainderOf r (drop i bytes) ≡ remainderOf start bytes)
+    (i ≤ length bytes) × (remainder_of r (drop i bytes) ≡ remainder_of start bytes)
 
 abbrev decreases-loop : tie.decreases-loop
 decreases-loop table start bytes r₀ i₀ r i = length bytes - i

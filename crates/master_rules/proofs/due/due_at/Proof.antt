@@ -6,15 +6,15 @@ use mathlib.Core.Path.{sym, ◌∙◌}
 use native.Mathlib.Omega.{arith}
 use borrow.Author.Tests.{le-leb, lt-leb, not-true, not-false}
 use borrow.Author.Rules.{rules}
-use Rattle.clock.specs.Time.{mostSet}
-use Rattle.clock.specs.Base.{timeAt}
+use Rattle.clock.specs.Time.{most_set}
+use Rattle.clock.specs.Base.{time_at}
 use Rattle.master_rules.proofs.due.due_at.Statement.{statement}
 use Rattle.master_rules.proofs.due.due_at.Tie as tie
 
 -- the seconds at t are those of 32 bits
 early :
     (c : tie.Else1) → let base = c.before.before.before.before in
-    (timeAt base.base.given.0.0 base.before.before.args.t).0 ≤ mostSet
+    (time_at base.base.given.0.0 base.before.before.args.t).0 ≤ most_set
 early c = omega (arith, rw c.before.before.time-at.ensures at c.if1.false)
 
 enum-known-base : tie.Need-enum-known-base
@@ -33,7 +33,7 @@ returns-2 : tie.Need-returns-2
 returns-2 c =
     let at = c.before.before in
     let base = at.before.before in
-    let late : mostSet < (timeAt base.base.given.0.0 base.before.before.args.t).0 =
+    let late : most_set < (time_at base.base.given.0.0 base.before.before.args.t).0 =
     omega (arith, rw at.time-at.ensures at c.if1.true) in
     rw (base.base.given.1, lt-leb _ _ late)
 
@@ -47,7 +47,7 @@ returns-3 c =
     rw (
       at.before.before.base.given.1,
       le-leb _ _ (early small),
-      sym c.before.is-master.ensures ∙ not-true _ c.if2.true,
+      sym c.before.is_master_lem.ensures ∙ not-true _ c.if2.true,
     )
 
 has-waited-requires : tie.Need-has-waited-requires
@@ -61,7 +61,7 @@ returns-4 c =
     rw (
       at.before.before.base.given.1,
       le-leb _ _ (early small),
-      sym role.before.is-master.ensures ∙ not-false _ role.if2.false,
+      sym role.before.is_master_lem.ensures ∙ not-false _ role.if2.false,
       sym c.before.has-waited.ensures ∙ not-true _ c.if3.true,
     )
 
@@ -77,7 +77,7 @@ returns-5 c =
       at.before.before.base.given.1,
       at.time-at.ensures,
       le-leb _ _ (early small),
-      sym role.before.is-master.ensures ∙ not-false _ role.if2.false,
+      sym role.before.is_master_lem.ensures ∙ not-false _ role.if2.false,
       sym c.before.before.has-waited.ensures ∙ not-false _ c.before.if3.false,
     )
 

@@ -8,15 +8,15 @@ use Rattle.settings.specs.declared.node_settings.Verdict.{Verdict}
 use Rattle.settings.specs.Node.{places}
 use Rattle.node.specs.declared.Node.{Node}
 use Rattle.node.specs.declared.NewNode.{NewNode}
-use Rattle.node.specs.New.{freshNode, newAs, newOf}
+use Rattle.node.specs.New.{fresh_node, new_as, new_of}
 use Rattle.node.proofs.Node.new.Statement.{statement}
 use Rattle.node.proofs.Node.new.Tie as tie
 
-as-judged :
+as_judged :
     (c : tie.After-judge) (v : Verdict) → c.judge.result ≡ v →
-    newAs v c.before.args.settings ≡ newOf c.before.args.settings
-as-judged c v e =
-    sym (ap (λ (v : Verdict). newAs v c.before.args.settings) (sym c.judge.ensures ∙ e))
+    new_as v c.before.args.settings ≡ new_of c.before.args.settings
+as_judged c v e =
+    sym (ap (λ (v : Verdict). new_as v c.before.args.settings) (sym c.judge.ensures ∙ e))
 
 judge-requires : tie.Need-judge-requires
 judge-requires c κs = search rules
@@ -42,14 +42,14 @@ returns c =
     let made : (v : Verdict) → Node → NewNode = λ v n. record { verdict = v; node = n } in
     ap (made _)
     (c.fresh-node.ensures
-    ∙ ap (λ (s : DomainSettings). freshNode 1 (replicate places s)) c.before.absent.ensures)
-    ∙ as-judged refused.before.before _ refused.refusal.given.1
+    ∙ ap (λ (s : DomainSettings). fresh_node 1 (replicate places s)) c.before.absent.ensures)
+    ∙ as_judged refused.before.before _ refused.refusal.given.1
 
 returns-2 : tie.Need-returns-2
 returns-2 c =
     let good = c.before.before in
     let made : (v : Verdict) → Node → NewNode = λ v n. record { verdict = v; node = n } in
-    ap (made _) c.fresh-node2.ensures ∙ as-judged good.before.before _ good.enum_told.given.1
+    ap (made _) c.fresh-node2.ensures ∙ as_judged good.before.before _ good.enum_told.given.1
 
 pub new_spec : {M : Type 1} → statement M
 new_spec =

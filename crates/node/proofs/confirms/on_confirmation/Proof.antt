@@ -8,9 +8,9 @@ use lib.ListN.{length}
 use borrow.Author.Rules.{rules}
 use Rattle.settings.specs.Node.{places}
 use Rattle.domain.specs.declared.Domain.{Domain}
-use Rattle.call_confirm.specs.ConfirmCall.{confirmCallOf, confirmBytes}
-use Rattle.node.specs.Confirm.{confirmStored}
-use Rattle.node.proofs.Sixteen.{looked-up}
+use Rattle.call_confirm.specs.ConfirmCall.{confirm_call_of, confirm_bytes}
+use Rattle.node.specs.Confirm.{confirm_stored}
+use Rattle.node.proofs.Sixteen.{looked_up}
 use Rattle.node.proofs.confirms.on_confirmation.Statement.{statement}
 use Rattle.node.proofs.confirms.on_confirmation.Tie as tie
 
@@ -40,16 +40,16 @@ returns c =
     let called = c.before.before.before.before in
     let at = called.before.before.before.before.before in
     let a = at.args in
-    let found = looked-up a.t1 _ at.well-formed.0 (a.domain % places) _ (omega arith) in
+    let found = looked_up a.t1 _ at.well-formed.0 (a.domain % places) _ (omega arith) in
     let out = a.out.now in
     record {
       call =
-          ap (confirmStored a.t1 (a.domain % places))
+          ap (confirm_stored a.t1 (a.domain % places))
           (called.confirm-call.ensures.call
-          ∙ ap (λ (d : Domain). confirmCallOf d a.t1.kept a.domain a.t a.counter (length out)) found);
+          ∙ ap (λ (d : Domain). confirm_call_of d a.t1.kept a.domain a.t a.counter (length out)) found);
       bytes =
           called.confirm-call.ensures.bytes
-          ∙ ap (λ (d : Domain). confirmBytes called.confirm-call.result.answer d.settings.ids out) found;
+          ∙ ap (λ (d : Domain). confirm_bytes called.confirm-call.result.answer d.settings.ids out) found;
     }
 
 pub on-confirmation-spec : {M : Type 1} → statement M

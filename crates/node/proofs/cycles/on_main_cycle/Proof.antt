@@ -8,25 +8,25 @@ use borrow.Author.Rules.{rules}
 use borrow.Author.Tests.{not-true, not-false, le-leb, lt-leb}
 use Rattle.clock.specs.declared.reading.VirtualLocalTime.{VirtualLocalTime}
 use Rattle.refusal.specs.declared.Refusal.TheVariants.{Reading, NoRoom}
-use Rattle.admission.specs.Reading.{isGoodReading}
+use Rattle.admission.specs.Reading.{is_good_reading}
 use Rattle.round.specs.declared.Round.{Round}
 use Rattle.node.specs.declared.Node.{Node}
 use Rattle.node.specs.declared.cycles.CycleAnswer.TheVariants.{Sent}
 use Rattle.node.specs.declared.cycles.NodeCycle.{NodeCycle}
-use Rattle.node.specs.Cycle.{isRoomFor, goneFrom, cycledBy, cycleRefused, nodeCycleOf}
+use Rattle.node.specs.Cycle.{is_room_for, gone_from, cycled_by, cycle_refused, node_cycle_of}
 use Rattle.node.proofs.cycles.on_main_cycle.Statement.{statement}
 use Rattle.node.proofs.cycles.on_main_cycle.Tie as tie
 
 module _ (n : Node) (t : VirtualLocalTime) (length : ℕ) where
-  early : isGoodReading n.kept t ≡ false → cycleRefused n Reading ≡ nodeCycleOf n t length
+  early : is_good_reading n.kept t ≡ false → cycle_refused n Reading ≡ node_cycle_of n t length
   early e = rw e
 
-  short : isGoodReading n.kept t ≡ true → isRoomFor n length ≡ false → cycleRefused n NoRoom ≡ nodeCycleOf n t length
+  short : is_good_reading n.kept t ≡ true → is_room_for n length ≡ false → cycle_refused n NoRoom ≡ node_cycle_of n t length
   short e f = rw (e, f)
 
   done :
-      isGoodReading n.kept t ≡ true → isRoomFor n length ≡ true →
-      cycledBy n t (goneFrom n t) ≡ nodeCycleOf n t length
+      is_good_reading n.kept t ≡ true → is_room_for n length ≡ true →
+      cycled_by n t (gone_from n t) ≡ node_cycle_of n t length
   done e f = rw (e, f)
 
   abbrev counted : Round → NodeCycle

@@ -3,8 +3,8 @@
 -- Assumes nothing.
 use native.Mathlib.Omega.{arith}
 use borrow.Author.Rules.{rules}
-use Rattle.node.proofs.Sixteen.{looked-up}
-use Rattle.node.proofs.frames.Stored.{frame-stored}
+use Rattle.node.proofs.Sixteen.{looked_up}
+use Rattle.node.proofs.frames.Stored.{frame_stored_lem}
 use Rattle.node.proofs.frames.on_frame.Statement.{statement}
 use Rattle.node.proofs.frames.on_frame.Tie as tie
 
@@ -34,9 +34,9 @@ returns c =
     let called = c.before.before in
     let at = called.before.before.before in
     let a = at.before.before.args in
-    frame-stored a.t1 a.t a.bytes.now
+    frame_stored_lem a.t1 a.t a.bytes.now
     at.named-domain.ensures
-    (looked-up a.t1 _ at.before.before.well-formed.0 _ _ (omega arith))
+    (looked_up a.t1 _ at.before.before.well-formed.0 _ _ (omega arith))
     called.frame-call.ensures
 
 pub on-frame-spec : {M : Type 1} → statement M

@@ -4,8 +4,8 @@ use mathlib.Core.Path.{ap, ◌∙◌}
 use native.Mathlib.Omega.{arith}
 use borrow.Author.Rules.{rules}
 use Rattle.domain.specs.declared.Domain.{Domain}
-use Rattle.call_read.specs.ReadCall.{readCallOf}
-use Rattle.node.proofs.Sixteen.{looked-up}
+use Rattle.call_read.specs.ReadCall.{read_call_of}
+use Rattle.node.proofs.Sixteen.{looked_up}
 use Rattle.node.proofs.reads.on_read.Statement.{statement}
 use Rattle.node.proofs.reads.on_read.Tie as tie
 
@@ -25,8 +25,8 @@ returns : tie.Need-returns
 returns c =
     let at = c.before.before.before in
     c.read-call.ensures
-    ∙ ap (λ (d : Domain). readCallOf d at.args.t1.kept at.args.domain at.args.t)
-    (looked-up at.args.t1 _ at.well-formed.0 _ _ (omega arith))
+    ∙ ap (λ (d : Domain). read_call_of d at.args.t1.kept at.args.domain at.args.t)
+    (looked_up at.args.t1 _ at.well-formed.0 _ _ (omega arith))
 
 pub on-read-spec : {M : Type 1} → statement M
 on-read-spec =

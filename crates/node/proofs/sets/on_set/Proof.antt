@@ -7,9 +7,9 @@ use native.Mathlib.Omega.{arith}
 use borrow.Author.Rules.{rules}
 use Rattle.settings.specs.Node.{places}
 use Rattle.domain.specs.declared.Domain.{Domain}
-use Rattle.call_set.specs.SetCall.{setCallOf}
-use Rattle.node.specs.Set.{setStored}
-use Rattle.node.proofs.Sixteen.{looked-up}
+use Rattle.call_set.specs.SetCall.{set_call_of}
+use Rattle.node.specs.Set.{set_stored}
+use Rattle.node.proofs.Sixteen.{looked_up}
 use Rattle.node.proofs.sets.on_set.Statement.{statement}
 use Rattle.node.proofs.sets.on_set.Tie as tie
 
@@ -36,10 +36,10 @@ returns c =
     let called = c.before.before in
     let at = called.before.before.before in
     let a = at.args in
-    ap (setStored a.t1 (a.domain % places))
+    ap (set_stored a.t1 (a.domain % places))
     (called.set-call.ensures
-    ∙ ap (λ (d : Domain). setCallOf d a.t1.kept a.domain a.t a.seconds a.nanoseconds)
-    (looked-up a.t1 _ at.well-formed.0 _ _ (omega arith)))
+    ∙ ap (λ (d : Domain). set_call_of d a.t1.kept a.domain a.t a.seconds a.nanoseconds)
+    (looked_up a.t1 _ at.well-formed.0 _ _ (omega arith)))
 
 pub on-set-spec : {M : Type 1} → statement M
 on-set-spec =

@@ -3,7 +3,7 @@
 use Prim.Native.Nat.{ℕ, ◌+◌, ◌-◌}
 use mathlib.Core.Path.{◌≡◌, ap, ◌∙◌}
 use native.Mathlib.Omega.{arith}
-use Rattle.node_words.specs.Words.{withPart}
+use Rattle.node_words.specs.Words.{with_part}
 use borrow.Author.Rules.{rules}
 use Rattle.node_words.proofs.puts.put_eight_at.Statement.{statement}
 use Rattle.node_words.proofs.puts.put_eight_at.Tie as tie
@@ -35,8 +35,8 @@ returns c =
     let a = called.before.before.before.args in
     let words = a.node.now in
     let size : a.from + 8 - a.from ≡ 8 = omega arith in
-    ap (λ (k : ℕ). withPart a.from k words called.put-eight.new.0) size
-    ∙ ap (withPart a.from 8 words) called.put-eight.ensures
+    ap (λ (k : ℕ). with_part a.from k words called.put-eight.new.0) size
+    ∙ ap (with_part a.from 8 words) called.put-eight.ensures
 
 pub put-eight-at-spec : {M : Type 1} → statement M
 put-eight-at-spec =

@@ -1,6 +1,6 @@
 -- `node_words::records::eleven` meets its contract: its elements one by one are the list.
 -- Assumes nothing.
-use Rattle.record_words.proofs.Runs.{run-all}
+use Rattle.record_words.proofs.Runs.{run_all}
 use borrow.Author.Rules.{rules}
 use Rattle.node_words.proofs.records.eleven.Statement.{statement}
 use Rattle.node_words.proofs.records.eleven.Tie as tie
@@ -41,7 +41,7 @@ shared-slice-read-t23 c = search rules
 returns : tie.Need-returns
 returns c =
     let entry = c.before.before.before.before.before.before.before.before.before.before.before in
-    run-all 11 entry.args.words.now entry.requires
+    run_all 11 entry.args.words.now entry.requires
 
 pub eleven-spec : {M : Type 1} → statement M
 eleven-spec =

@@ -3,7 +3,7 @@
 use Prim.Native.Nat.{ℕ, ◌+◌, ◌-◌}
 use mathlib.Core.Path.{◌≡◌, ap, ◌∙◌}
 use native.Mathlib.Omega.{arith}
-use Rattle.node_words.specs.Words.{settingsAt, stateAt, part_of}
+use Rattle.node_words.specs.Words.{settings_at, state_at, part_of}
 use borrow.Author.Rules.{rules}
 use Rattle.node_words.proofs.records.record_at.Statement.{statement}
 use Rattle.node_words.proofs.records.record_at.Tie as tie
@@ -66,13 +66,13 @@ returns c =
     let given = number.before.before in
     let a = c.before.before.before.before.before.before.before.before.args in
     let words = a.node.now in
-    let from = settingsAt a.at in
+    let from = settings_at a.at in
     let size : from + 11 - from ≡ 11 = omega arith in
-    let behind : from + 11 ≡ stateAt a.at = omega arith in
+    let behind : from + 11 ≡ state_at a.at = omega arith in
     let next : from + 11 + 11 - (from + 11) ≡ 11 = omega arith in
     let settings-are : given.eleven.result ≡ part_of from 11 words =
     given.eleven.ensures ∙ ap (λ (k : ℕ). part_of from k words) size in
-    let state-is : state.eleven2.result ≡ part_of (stateAt a.at) 11 words =
+    let state-is : state.eleven2.result ≡ part_of (state_at a.at) 11 words =
     state.eleven2.ensures
     ∙ ap (λ (k : ℕ). part_of (from + 11) k words) next
     ∙ ap (λ (f : ℕ). part_of f 11 words) behind in

@@ -12,29 +12,29 @@ use lib.Seq.{drop-cons, drop-length}
 use borrow.Author.Rules.{rules}
 use borrow.Author.Tests.{not-true, not-false}
 use Rattle.settings.specs.declared.domain_settings.DomainSettings.{DomainSettings}
-use Rattle.settings.specs.Ranges.{isGood}
-use Rattle.settings.specs.Node.{places, allGood}
+use Rattle.settings.specs.Ranges.{is_good}
+use Rattle.settings.specs.Node.{places, all_good}
 use Rattle.settings.proofs.node_settings.all_good.Statement.{statement}
 use Rattle.settings.proofs.node_settings.all_good.Tie as tie
 
 abbrev invariant-loop : tie.invariant-loop
-invariant-loop domains d₀ d = (d ≤ places) × (allGood (drop d domains) ≡ allGood domains)
+invariant-loop domains d₀ d = (d ≤ places) × (all_good (drop d domains) ≡ all_good domains)
 
 abbrev decreases-loop : tie.decreases-loop
 decreases-loop domains d₀ d = places - d
 
 module _ (l : List DomainSettings) (d : ℕ) (other : DomainSettings) (r : Bool) (more : d < length l)
-    (e : r ≡ isGood (get_or l d other)) where
-  step : allGood (drop d l) ≡ (r && allGood (drop (suc d) l))
-  step = ap allGood (drop-cons l d other more) ∙ ap (λ (b : Bool). b && allGood (drop (suc d) l)) (sym e)
+    (e : r ≡ is_good (get_or l d other)) where
+  step : all_good (drop d l) ≡ (r && all_good (drop (suc d) l))
+  step = ap all_good (drop-cons l d other more) ∙ ap (λ (b : Bool). b && all_good (drop (suc d) l)) (sym e)
 
-  stop : r ≡ false → allGood (drop d l) ≡ allGood l → false ≡ allGood l
-  stop bad before = sym (sym before ∙ step ∙ ap (λ (b : Bool). b && allGood (drop (suc d) l)) bad)
+  stop : r ≡ false → all_good (drop d l) ≡ all_good l → false ≡ all_good l
+  stop bad before = sym (sym before ∙ step ∙ ap (λ (b : Bool). b && all_good (drop (suc d) l)) bad)
 
-  on : r ≡ true → allGood (drop d l) ≡ allGood l → allGood (drop (d + 1) l) ≡ allGood l
+  on : r ≡ true → all_good (drop d l) ≡ all_good l → all_good (drop (d + 1) l) ≡ all_good l
   on good before =
-      ap (λ (k : ℕ). allGood (drop k l)) (add-one d)
-      ∙ sym (step ∙ ap (λ (b : Bool). b && allGood (drop (suc d) l)) good) ∙ before
+      ap (λ (k : ℕ). all_good (drop k l)) (add-one d)
+      ∙ sym (step ∙ ap (λ (b : Bool). b && all_good (drop (suc d) l)) good) ∙ before
 
 long : (c : tie.Start invariant-loop decreases-loop) → length c.args.t1 ≡ places
 long c = c.well-formed.0.1.0.1
@@ -77,7 +77,7 @@ returns-2 : tie.Need-returns-2 invariant-loop decreases-loop
 returns-2 c =
     let l = c.before.before.args.t1 in
     let all : c.before.loop.d ≡ length l = omega (arith, long c.before.before) in
-    sym (sym c.before.loop.invariant.1 ∙ ap (λ (k : ℕ). allGood (drop k l)) all ∙ ap allGood (drop-length l))
+    sym (sym c.before.loop.invariant.1 ∙ ap (λ (k : ℕ). all_good (drop k l)) all ∙ ap all_good (drop-length l))
 
 pub all-good-spec : {M : Type 1} → statement M
 all-good-spec =

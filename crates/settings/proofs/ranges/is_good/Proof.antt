@@ -23,10 +23,10 @@ returns : tie.Need-returns
 returns c = rw c.enum_told.given.1
 
 returns-2 : tie.Need-returns-2
-returns-2 c = rw c.before.enum-told2.given.1 c.slave-good.ensures
+returns-2 c = rw c.before.enum-told2.given.1 c.good_slave.ensures
 
 returns-3 : tie.Need-returns-3
-returns-3 c = rw c.before.enum-told3.given.1 c.master-good.ensures
+returns-3 c = rw c.before.enum-told3.given.1 c.good_master.ensures
 
 pub is-good-spec : {M : Type 1} → statement M
 is-good-spec =

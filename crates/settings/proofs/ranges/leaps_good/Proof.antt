@@ -9,13 +9,13 @@ use lib.Dec.{leb}
 use borrow.Author.Tests.{le-leb}
 use Rattle.promise.proofs.Tests.{refuted}
 use Rattle.settings.specs.declared.domain_settings.DomainSettings.{DomainSettings}
-use Rattle.settings.specs.Ranges.{leapsGood}
-use Rattle.settings.proofs.ranges.Laws.{LeapsRange, leaps-range}
+use Rattle.settings.specs.Ranges.{leaps_good}
+use Rattle.settings.proofs.ranges.Laws.{LeapsRange, leaps_range}
 use Rattle.settings.proofs.ranges.leaps_good.Statement.{statement}
 use Rattle.settings.proofs.ranges.leaps_good.Tie as tie
 
-refused : (s : DomainSettings) → (LeapsRange s → ⊥) → false ≡ leapsGood s
-refused s never = refuted (leapsGood s) (λ e. never (leaps-range s e))
+refused : (s : DomainSettings) → (LeapsRange s → ⊥) → false ≡ leaps_good s
+refused s never = refuted (leaps_good s) (λ e. never (leaps_range s e))
 
 -- all but that the count is not 0
 record InRange (s : DomainSettings) : Type 0 where
@@ -23,7 +23,7 @@ record InRange (s : DomainSettings) : Type 0 where
   past : s.past_threshold ≤ 1000000000000
   byte : s.clear_count ≤ 255
 
-last : (s : DomainSettings) → InRange s → leb 1 s.clear_count ≡ leapsGood s
+last : (s : DomainSettings) → InRange s → leb 1 s.clear_count ≡ leaps_good s
 last s r = rw (le-leb _ _ r.future, le-leb _ _ r.past, le-leb _ _ r.byte, and-true (leb 1 s.clear_count))
 
 -- the settings, after each test

@@ -10,20 +10,20 @@ use borrow.Author.Tests.{le-leb}
 use borrow.Author.Rules.{rules}
 use Rattle.promise.proofs.Tests.{refuted}
 use Rattle.settings.specs.declared.domain_settings.DomainSettings.{DomainSettings}
-use Rattle.settings.specs.Ranges.{masterGood}
-use Rattle.settings.proofs.ranges.Laws.{MasterRange, master-range}
+use Rattle.settings.specs.Ranges.{master_good}
+use Rattle.settings.proofs.ranges.Laws.{MasterRange, master_range}
 use Rattle.settings.proofs.ranges.master_good.Statement.{statement}
 use Rattle.settings.proofs.ranges.master_good.Tie as tie
 
-refused : (s : DomainSettings) → (MasterRange s → ⊥) → false ≡ masterGood s
-refused s never = refuted (masterGood s) (λ e. never (master-range s e))
+refused : (s : DomainSettings) → (MasterRange s → ⊥) → false ≡ master_good s
+refused s never = refuted (master_good s) (λ e. never (master_range s e))
 
 -- all but the last
 record InRange (s : DomainSettings) : Type 0 where
   period : (1000000 ≤ s.period) × (s.period ≤ 1000000000000)
   confirmation : (1 ≤ s.confirmation_time) × (s.confirmation_time ≤ 3000000000)
 
-last : (s : DomainSettings) → InRange s → ltb s.confirmation_time s.period ≡ masterGood s
+last : (s : DomainSettings) → InRange s → ltb s.confirmation_time s.period ≡ master_good s
 last s r =
     rw (
       le-leb _ _ r.period.0,

@@ -9,13 +9,13 @@ use borrow.Author.Tests.{le-leb, lt-ltb}
 use borrow.Author.Rules.{rules}
 use Rattle.promise.proofs.Tests.{refuted}
 use Rattle.settings.specs.declared.domain_settings.DomainSettings.{DomainSettings}
-use Rattle.settings.specs.Ranges.{leapsGood, slaveGood}
-use Rattle.settings.proofs.ranges.Laws.{SlaveRange, slave-range}
+use Rattle.settings.specs.Ranges.{leaps_good, slave_good}
+use Rattle.settings.proofs.ranges.Laws.{SlaveRange, slave_range}
 use Rattle.settings.proofs.ranges.slave_good.Statement.{statement}
 use Rattle.settings.proofs.ranges.slave_good.Tie as tie
 
-refused : (s : DomainSettings) → (SlaveRange s → ⊥) → false ≡ slaveGood s
-refused s never = refuted (slaveGood s) (λ e. never (slave-range s e))
+refused : (s : DomainSettings) → (SlaveRange s → ⊥) → false ≡ slave_good s
+refused s never = refuted (slave_good s) (λ e. never (slave_range s e))
 
 -- all but the leaps
 record InRange (s : DomainSettings) : Type 0 where
@@ -24,7 +24,7 @@ record InRange (s : DomainSettings) : Type 0 where
   follow : (1 ≤ s.follow_up_time) × (s.follow_up_time ≤ 10000000000)
   loss : (s.follow_up_time < s.loss_time) × (s.loss_time ≤ 1000000000000)
 
-last : (s : DomainSettings) → InRange s → leapsGood s ≡ slaveGood s
+last : (s : DomainSettings) → InRange s → leaps_good s ≡ slave_good s
 last s r =
     rw (
       le-leb _ _ r.jump.0,

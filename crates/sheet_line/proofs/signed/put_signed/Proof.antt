@@ -4,8 +4,8 @@ use mir.Syntax.{w64}
 use mir.ValLaws.{to_z-of_z}
 use borrow.Author.Rules.{rules}
 use Rattle.text.proofs.Laws.{named}
-use Rattle.sheet_line.specs.Signed.{plainText, minusText}
-use Rattle.sheet_line.proofs.signed.Signs.{below, not-below}
+use Rattle.sheet_line.specs.Signed.{plain_text, minus_text}
+use Rattle.sheet_line.proofs.signed.Signs.{below, not_below}
 use Rattle.sheet_line.proofs.signed.put_signed.Statement.{statement}
 use Rattle.sheet_line.proofs.signed.put_signed.Tie as tie
 
@@ -33,7 +33,7 @@ returns c =
     let d = start.args.d in
     let e = to_z-of_z w64 d start.ranges.d in
     named
-    (ap minusText (rw e at far.magnitude.ensures) ∙ below d (rw e at test.if1.true))
+    (ap minus_text (rw e at far.magnitude.ensures) ∙ below d (rw e at test.if1.true))
     called.put-minus.ensures
 
 same-length-2 : tie.Need-same-length-2
@@ -48,7 +48,7 @@ returns-2 c =
     let d = start.args.d in
     let e = to_z-of_z w64 d start.ranges.d in
     named
-    (ap plainText (rw e at far.magnitude2.ensures) ∙ not-below d (rw e at test.if1.false))
+    (ap plain_text (rw e at far.magnitude2.ensures) ∙ not_below d (rw e at test.if1.false))
     called.put-plain.ensures
 
 pub put-signed-spec : {M : Type 1} → statement M

@@ -2,7 +2,7 @@
 use mathlib.Core.Path.{sym, ap}
 use borrow.Author.Rules.{rules}
 use Rattle.text.proofs.Laws.{named}
-use Rattle.sheet_line.specs.Signed.{toldText}
+use Rattle.sheet_line.specs.Signed.{told_text}
 use Rattle.sheet_line.proofs.signed.put_told.Statement.{statement}
 use Rattle.sheet_line.proofs.signed.put_told.Tie as tie
 
@@ -34,7 +34,7 @@ returns : tie.Need-returns
 returns c =
     let called = c.before.before in
     let arm = called.before.before.before in
-    named (ap toldText (sym arm.told.given.1)) called.put-plain.ensures
+    named (ap told_text (sym arm.told.given.1)) called.put-plain.ensures
 
 same-length-2 : tie.Need-same-length-2
 same-length-2 c = search rules
@@ -43,7 +43,7 @@ returns-2 : tie.Need-returns-2
 returns-2 c =
     let called = c.before.before in
     let arm = called.before.before.before in
-    named (ap toldText (sym arm.told2.given.1)) called.put-minus.ensures
+    named (ap told_text (sym arm.told2.given.1)) called.put-minus.ensures
 
 same-length-3 : tie.Need-same-length-3
 same-length-3 c = search rules
@@ -52,7 +52,7 @@ returns-3 : tie.Need-returns-3
 returns-3 c =
     let called = c.before.before in
     let arm = called.before.before.before in
-    named (ap toldText (sym arm.enum_told.given.1)) called.put-bytes.ensures
+    named (ap told_text (sym arm.enum_told.given.1)) called.put-bytes.ensures
 
 pub put-told-spec : {M : Type 1} → statement M
 put-told-spec =

@@ -2,7 +2,7 @@
 use borrow.Author.Rules.{rules}
 use mathlib.Core.Path.{ap}
 use borrow.Author.Tests.{eq-eqb, ne_eqb}
-use Rattle.text.specs.Lines.{badText, cutText}
+use Rattle.text.specs.Lines.{bad_text, cut_text}
 use Rattle.text.proofs.Laws.{named, nothing}
 use Rattle.sheet_step.proofs.report.put_refusal.Statement.{statement}
 use Rattle.sheet_step.proofs.report.put_refusal.Tie as tie
@@ -21,7 +21,7 @@ returns c =
     let wrote = c.before.before in
     let number = wrote.before in
     let test = number.before.before in
-    rw test.if1.true (named (ap badText number.next-item.ensures) wrote.put-bad.ensures)
+    rw test.if1.true (named (ap bad_text number.next-item.ensures) wrote.put-bad.ensures)
 
 returns-2 : tie.Need-returns-2
 returns-2 c =
@@ -42,7 +42,7 @@ returns-3 c =
     let number = wrote.before in
     let test = number.before.before in
     rw (test.before.if1.false, ne_eqb _ 0 test.if2.false)
-    (named (ap cutText number.next-item2.ensures) wrote.put-cut.ensures)
+    (named (ap cut_text number.next-item2.ensures) wrote.put-cut.ensures)
 
 pub put-refusal-spec : {M : Type 1} → statement M
 put-refusal-spec =

@@ -5,12 +5,12 @@ use lib.Dec.{eqb}
 use borrow.Author.Rules.{rules}
 use Rattle.sheet_sum.specs.declared.Wide.{Wide}
 use Rattle.sheet_sum.specs.Wide.{value_of}
-use Rattle.sheet_sum.proofs.Sums.{told-plus, told-minus}
+use Rattle.sheet_sum.proofs.Sums.{told_plus, told_minus}
 use Rattle.sheet_sum.proofs.Sum.told.Statement.{statement}
 use Rattle.sheet_sum.proofs.Sum.told.Tie as tie
 
-abbrev isZero : Wide → Bool
-isZero w = eqb (value_of w) 0
+abbrev is_zero : Wide → Bool
+is_zero w = eqb (value_of w) 0
 
 gap-requires : tie.Need-gap-requires
 gap-requires c κs = search rules
@@ -34,8 +34,8 @@ returns c =
     let behind = asked.before in
     let ahead = behind.before in
     rw (c.plus.ensures, ahead.gap.ensures)
-    (told-plus ahead.before.args.self
-    (ap isZero (sym behind.gap2.ensures) ∙ sym asked.is_zero.ensures ∙ test.if1.true))
+    (told_plus ahead.before.args.self
+    (ap is_zero (sym behind.gap2.ensures) ∙ sym asked.is_zero.ensures ∙ test.if1.true))
 
 returns-2 : tie.Need-returns-2
 returns-2 c =
@@ -43,8 +43,8 @@ returns-2 c =
     let asked = test.before in
     let behind = asked.before in
     rw (c.minus.ensures, behind.gap2.ensures)
-    (told-minus behind.before.before.args.self
-    (ap isZero (sym behind.gap2.ensures) ∙ sym asked.is_zero.ensures ∙ test.if1.false))
+    (told_minus behind.before.before.args.self
+    (ap is_zero (sym behind.gap2.ensures) ∙ sym asked.is_zero.ensures ∙ test.if1.false))
 
 pub told-spec : {M : Type 1} → statement M
 told-spec =

@@ -2,7 +2,7 @@
 use mir.Syntax.{w64}
 use mir.ValLaws.{to_z-of_z}
 use borrow.Author.Rules.{rules}
-use Rattle.sheet_sum.proofs.Sums.{goes-behind, goes-ahead}
+use Rattle.sheet_sum.proofs.Sums.{goes_behind, goes_ahead}
 use Rattle.sheet_sum.proofs.Sum.with.Statement.{statement}
 use Rattle.sheet_sum.proofs.Sum.with.Tie as tie
 
@@ -24,7 +24,7 @@ returns c =
     let d = start.args.d in
     let f = start.ranges.d in
     rw (c.plus.ensures, c.before.magnitude.ensures, to_z-of_z w64 d f)
-    (goes-behind start.args.self d (rw (to_z-of_z w64 d f) at c.before.before.if1.true))
+    (goes_behind start.args.self d (rw (to_z-of_z w64 d f) at c.before.before.if1.true))
 
 returns-2 : tie.Need-returns-2
 returns-2 c =
@@ -32,7 +32,7 @@ returns-2 c =
     let d = start.args.d in
     let f = start.ranges.d in
     rw (c.plus2.ensures, c.before.magnitude2.ensures, to_z-of_z w64 d f)
-    (goes-ahead start.args.self d (rw (to_z-of_z w64 d f) at c.before.before.if1.false))
+    (goes_ahead start.args.self d (rw (to_z-of_z w64 d f) at c.before.before.if1.false))
 
 pub with-spec : {M : Type 1} → statement M
 with-spec =

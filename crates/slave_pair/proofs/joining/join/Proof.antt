@@ -5,7 +5,7 @@ use Prim.Native.Nat.{◌≤◌, ◌<◌}
 use native.Mathlib.Omega.{arith}
 use borrow.Author.Tests.{le-ltb, lt-ltb, le-leb, lt-leb, eq-eqb, ne_eqb}
 use borrow.Author.Rules.{rules}
-use Rattle.clock.specs.Time.{mostNanoseconds}
+use Rattle.clock.specs.Time.{most_nanoseconds}
 use Rattle.slave_pair.proofs.joining.join.Statement.{statement}
 use Rattle.slave_pair.proofs.joining.join.Tie as tie
 
@@ -42,7 +42,7 @@ returns-4 c =
     let young = same.before.before.before in
     let at = young.before in
     let pair = at.before.before.before in
-    let above : mostNanoseconds < pair.before.before.args.fup.nanoseconds = omega (arith, c.if3.true) in
+    let above : most_nanoseconds < pair.before.before.args.fup.nanoseconds = omega (arith, c.if3.true) in
     rw (
       pair.pairing.given.1,
       le-ltb _ _ (rw at.since.ensures at young.if1.false),
@@ -56,7 +56,7 @@ returns-5 c =
     let young = same.before.before.before in
     let at = young.before in
     let pair = at.before.before.before in
-    let within : pair.before.before.args.fup.nanoseconds ≤ mostNanoseconds = omega (arith, c.if3.false) in
+    let within : pair.before.before.args.fup.nanoseconds ≤ most_nanoseconds = omega (arith, c.if3.false) in
     rw (
       pair.pairing.given.1,
       le-ltb _ _ (rw at.since.ensures at young.if1.false),

@@ -4,20 +4,20 @@
 use mathlib.Core.Path.{◌≡◌, sym, ap, ◌∙◌}
 use mir.Syntax.{w64}
 use mir.ValLaws.{to_z-of_z}
-use Rattle.slave_update.specs.Leap.{isFuture, isPast}
+use Rattle.slave_update.specs.Leap.{is_future, is_past}
 use borrow.Author.Rules.{rules}
 use Rattle.slave_update.proofs.leap.leap_after.Statement.{statement}
 use Rattle.slave_update.proofs.leap.leap_after.Tie as tie
 
-future : (c : tie.After-is-future) → let a = c.before.args in c.is-future.result ≡ isFuture a.future a.d
+future : (c : tie.After-is-future) → let a = c.before.args in c.is-future.result ≡ is_future a.future a.d
 future c =
     let a = c.before.args in
-    c.is-future.ensures ∙ ap (isFuture a.future) (to_z-of_z w64 a.d c.before.ranges.d)
+    c.is-future.ensures ∙ ap (is_future a.future) (to_z-of_z w64 a.d c.before.ranges.d)
 
-past : (c : tie.After-is-past) → let a = c.before.before.before.args in c.is-past.result ≡ isPast a.past a.d
+past : (c : tie.After-is-past) → let a = c.before.before.before.args in c.is-past.result ≡ is_past a.past a.d
 past c =
     let at = c.before.before.before in
-    c.is-past.ensures ∙ ap (isPast at.args.past) (to_z-of_z w64 at.args.d at.ranges.d)
+    c.is-past.ensures ∙ ap (is_past at.args.past) (to_z-of_z w64 at.args.d at.ranges.d)
 
 is-future-requires : tie.Need-is-future-requires
 is-future-requires c κs = search rules

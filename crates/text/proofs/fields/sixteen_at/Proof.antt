@@ -1,5 +1,5 @@
 -- `text::fields::sixteen_at` meets its contract. The invariant: the first i bytes of the list are the i
--- bytes from the place on, and a turn is `fields-put`. The measure is what is left of the 16.
+-- bytes from the place on, and a turn is `fields_put`. The measure is what is left of the 16.
 -- Assumes nothing.
 use Prim.Native.Nat.{ℕ, ◌-◌, ◌≤◌}
 use mathlib.Core.Path.{◌≡◌, sym, ap, ◌∙◌}
@@ -8,7 +8,7 @@ use lib.ListN.{length, get_or, take, length-set}
 use lib.Seq.{take_all}
 use borrow.Author.Rules.{rules}
 use Rattle.text.specs.Fields.{bytes_at}
-use Rattle.text.proofs.fields.Laws.{fields-put}
+use Rattle.text.proofs.fields.Laws.{fields_put}
 use Rattle.text.proofs.fields.sixteen_at.Statement.{statement}
 use Rattle.text.proofs.fields.sixteen_at.Tie as tie
 
@@ -42,7 +42,7 @@ loop-again c =
     let args = at.before.before.args in (
       omega arith,
       simp length-set at.loop.invariant.1,
-      fields-put (λ (p : ℕ). get_or args.bytes.now p 0) 1 at.loop.list at.loop.i args.at _ _
+      fields_put (λ (p : ℕ). get_or args.bytes.now p 0) 1 at.loop.list at.loop.i args.at _ _
           (omega arith) (omega arith) c.byte_at.ensures at.loop.invariant.2,
     )
 

@@ -1,5 +1,5 @@
 -- `trial_step::block::domains_of` meets its contract. The invariant: the first d domains are those of
--- `domainsOf`, and a turn is `fields-put`. The measure is what is left of the 16.
+-- `domains_of`, and a turn is `fields_put`. The measure is what is left of the 16.
 -- Assumes nothing.
 use Prim.Native.Nat.{ℕ, ◌-◌, ◌≤◌}
 use mathlib.Core.Path.{◌≡◌, refl, sym, ap, ◌∙◌}
@@ -7,14 +7,14 @@ use native.Mathlib.Omega.{arith}
 use lib.ListN.{length, take, length-set}
 use lib.Seq.{take_all}
 use borrow.Author.Rules.{rules}
-use Rattle.text.proofs.fields.Laws.{fields-put}
-use Rattle.trial_step.specs.Block.{one_of, domainsOf}
+use Rattle.text.proofs.fields.Laws.{fields_put}
+use Rattle.trial_step.specs.Block.{one_of, domains_of}
 use Rattle.trial_step.proofs.block.domains_of.Statement.{statement}
 use Rattle.trial_step.proofs.block.domains_of.Tie as tie
 
 abbrev invariant-loop : tie.invariant-loop
 invariant-loop item blocks domains₀ d₀ domains d =
-    (d ≤ 16) × (length domains ≡ 16) × (take d domains ≡ domainsOf d blocks item)
+    (d ≤ 16) × (length domains ≡ 16) × (take d domains ≡ domains_of d blocks item)
 
 abbrev decreases-loop : tie.decreases-loop
 decreases-loop item blocks domains₀ d₀ domains d = 16 - d
@@ -49,8 +49,8 @@ loop-again c =
     let args = at.before.before.before.args in (
       omega arith,
       simp length-set at.loop.invariant.1,
-      fields-put (one_of args.blocks args.item.now) 1 at.loop.domains at.loop.d 0 _ _
-          (omega (arith, at.loop.invariant.1)) (omega arith) c.one-of.ensures at.loop.invariant.2,
+      fields_put (one_of args.blocks args.item.now) 1 at.loop.domains at.loop.d 0 _ _
+          (omega (arith, at.loop.invariant.1)) (omega arith) c.one_of.ensures at.loop.invariant.2,
     )
 
 returns : tie.Need-returns invariant-loop decreases-loop
@@ -59,7 +59,7 @@ returns c =
     let args = at.before.before.before.args in
     let all : at.loop.d ≡ 16 = omega arith in
     sym (take_all at.loop.d at.loop.domains (omega (arith, at.loop.invariant.1))) ∙ at.loop.invariant.2
-    ∙ ap (λ (k : ℕ). domainsOf k args.blocks args.item.now) all
+    ∙ ap (λ (k : ℕ). domains_of k args.blocks args.item.now) all
 
 pub domains-of-spec : {M : Type 1} → statement M
 domains-of-spec =

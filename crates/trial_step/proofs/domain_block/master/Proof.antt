@@ -4,8 +4,8 @@
 use Prim.Native.Nat.{◌<◌}
 use mathlib.Core.Path.{ap, ◌∙◌}
 use borrow.Author.Rules.{rules}
-use Rattle.settings.specs.Domain.{asMaster}
-use Rattle.trial_step.specs.DomainBlock.{confirmationTime}
+use Rattle.settings.specs.Domain.{as_master}
+use Rattle.trial_step.specs.DomainBlock.{confirmation_time}
 use Rattle.trial_step.proofs.domain_block.Laws.{within, fits16, fits64}
 use Rattle.trial_step.proofs.domain_block.master.Statement.{statement}
 use Rattle.trial_step.proofs.domain_block.master.Tie as tie
@@ -72,8 +72,8 @@ returns-2 c =
     let known = long2.before.before in
     rw known.before.sends.given.1
     (λ i.
-    asMaster (long2.before.long-at.ensures i)
-    ((ids.before.confirmation-time.ensures ∙ ap confirmationTime long2.long-at2.ensures) i)
+    as_master (long2.before.long-at.ensures i)
+    ((ids.before.confirmation-time.ensures ∙ ap confirmation_time long2.long-at2.ensures) i)
     known.before.sends.given.0.0
     (record {
       0 = c.before.before.byte_at.ensures i;

@@ -3,8 +3,8 @@
 use Prim.Native.Nat.{◌<◌}
 use mathlib.Core.Path.{ap, ◌∙◌}
 use borrow.Author.Rules.{rules}
-use Rattle.settings.specs.Domain.{asSlave}
-use Rattle.trial_step.specs.DomainBlock.{clearCount}
+use Rattle.settings.specs.Domain.{as_slave}
+use Rattle.trial_step.specs.DomainBlock.{clear_count}
 use Rattle.trial_step.proofs.domain_block.Laws.{within, fits16, fits64}
 use Rattle.trial_step.proofs.domain_block.slave.Statement.{statement}
 use Rattle.trial_step.proofs.domain_block.slave.Tie as tie
@@ -85,9 +85,9 @@ returns-2 c =
     let known = long2.before.before in
     rw known.before.mode.given.1
     (λ i.
-    asSlave (byte.byte_at.ensures i) (byte2.byte-at2.ensures i) (long2.before.long-at.ensures i)
+    as_slave (byte.byte_at.ensures i) (byte2.byte-at2.ensures i) (long2.before.long-at.ensures i)
     (long2.long-at2.ensures i) (long4.before.long-at3.ensures i) (long4.long-at4.ensures i)
-    ((c.clear-count.ensures ∙ ap clearCount c.before.byte-at3.ensures) i) known.before.mode.given.0.0
+    ((c.clear-count.ensures ∙ ap clear_count c.before.byte-at3.ensures) i) known.before.mode.given.0.0
     (byte.before.ids_at.ensures i))
 
 pub slave-spec : {M : Type 1} → statement M

@@ -4,14 +4,14 @@ use mathlib.Core.Path.{◌≡◌, refl, sym, ap, ◌∙◌}
 use mathlib.Core.List.{List}
 use borrow.Author.Rules.{rules}
 use Rattle.trial_step.specs.declared.item.Item.{Item}
-use Rattle.trial_step.specs.Item.{itemOf, lengthAs, itemLength}
+use Rattle.trial_step.specs.Item.{item_of, length_as, item_length}
 use Rattle.trial_step.proofs.item.item_length.Statement.{statement}
 use Rattle.trial_step.proofs.item.item_length.Tie as tie
 
-length-is :
-    (bytes : List ℕ) {i : Item} {length : ℕ} → itemOf bytes ≡ i → length ≡ lengthAs i bytes →
-    length ≡ itemLength bytes
-length-is bytes e p = p ∙ ap (λ (i : Item). lengthAs i bytes) (sym e)
+length_is :
+    (bytes : List ℕ) {i : Item} {length : ℕ} → item_of bytes ≡ i → length ≡ length_as i bytes →
+    length ≡ item_length bytes
+length_is bytes e p = p ∙ ap (λ (i : Item). length_as i bytes) (sym e)
 
 item-of-requires : tie.Need-item-of-requires
 item-of-requires c κs = search rules
@@ -62,7 +62,7 @@ returns : tie.Need-returns
 returns c =
     let told = c.before in
     let read = told.before.before in
-    length-is read.before.before.args.bytes.now (sym read.item_of.ensures ∙ told.enum_told.given.1)
+    length_is read.before.before.args.bytes.now (sym read.item_of.ensures ∙ told.enum_told.given.1)
     (ap (λ (n : ℕ). 4 + 128 * n) c.byte_at.ensures)
 
 returns-2 : tie.Need-returns-2
@@ -70,18 +70,18 @@ returns-2 c =
     let count = c.before in
     let told = count.before in
     let read = told.before.before in
-    length-is read.before.before.args.bytes.now (sym read.item_of.ensures ∙ told.enum-told2.given.1)
+    length_is read.before.before.args.bytes.now (sym read.item_of.ensures ∙ told.enum-told2.given.1)
     (λ i. 20 + 8 * count.byte-at2.ensures i + c.frame-bytes.ensures i)
 
 returns-3 : tie.Need-returns-3
 returns-3 c =
     let read = c.before.before in
-    length-is read.before.before.args.bytes.now (sym read.item_of.ensures ∙ c.enum-told3.given.1) refl
+    length_is read.before.before.args.bytes.now (sym read.item_of.ensures ∙ c.enum-told3.given.1) refl
 
 returns-4 : tie.Need-returns-4
 returns-4 c =
     let read = c.before.before in
-    length-is read.before.before.args.bytes.now (sym read.item_of.ensures ∙ c.enum-told4.given.1) refl
+    length_is read.before.before.args.bytes.now (sym read.item_of.ensures ∙ c.enum-told4.given.1) refl
 
 pub item-length-spec : {M : Type 1} → statement M
 item-length-spec =

@@ -2,8 +2,8 @@
 -- user bytes and the update counter, a blank before each. What was written keeps the length. Assumes nothing.
 use mathlib.Core.Path.{sym, ap}
 use borrow.Author.Rules.{rules}
-use Rattle.text.proofs.Laws.{then, named, nothing, length-kept}
-use Rattle.trial_step.specs.TrialLine.{trialRead}
+use Rattle.text.proofs.Laws.{then, named, nothing, length_kept}
+use Rattle.trial_step.specs.TrialLine.{trial_read}
 use Rattle.trial_step.proofs.line.put_read.Statement.{statement}
 use Rattle.trial_step.proofs.line.put_read.Tie as tie
 
@@ -36,7 +36,7 @@ put-decimal-requires c κs = search rules
 
 returns : tie.Need-returns
 returns c =
-    named (ap trialRead (sym c.enum_told.given.1)) nothing
+    named (ap trial_read (sym c.enum_told.given.1)) nothing
 
 returns-2 : tie.Need-returns-2
 returns-2 c =
@@ -47,7 +47,7 @@ returns-2 c =
     let shown = first.before.before.before.before in
     let arm = shown.before.before.before.before in
     named
-    (ap trialRead (sym arm.read.given.1))
+    (ap trial_read (sym arm.read.given.1))
     (then
     (then
     (then (then shown.put-shown.ensures first.put_byte.ensures) user.put-hex.ensures)
@@ -55,7 +55,7 @@ returns-2 c =
     updates.put-decimal.ensures)
 
 same_length : tie.Need-same-length
-same_length c = length-kept (returns-2 c)
+same_length c = length_kept (returns-2 c)
 
 pub put-read-spec : {M : Type 1} → statement M
 put-read-spec =

@@ -3,7 +3,7 @@
 use mathlib.Core.Path.{ap}
 use borrow.Author.Rules.{rules}
 use Rattle.text.proofs.Laws.{then, named}
-use Rattle.text.specs.Lines.{answerText}
+use Rattle.text.specs.Lines.{answer_text}
 use Rattle.trial_step.proofs.line.put_trial_line.Statement.{statement}
 use Rattle.trial_step.proofs.line.put_trial_line.Tie as tie
 
@@ -31,7 +31,7 @@ returns c =
     let item = number.before.before.before.before.args.item in
     then
     (then
-    (named (ap (answerText item) number.number.ensures) first.put-answer.ensures)
+    (named (ap (answer_text item) number.number.ensures) first.put-answer.ensures)
     middle.put-values.ensures)
     last.put_byte.ensures
 

@@ -4,8 +4,8 @@ use mathlib.Core.Path.{sym, ap, ◌∙◌}
 use borrow.Author.Rules.{rules}
 use Rattle.text.specs.Text.{decimal}
 use Rattle.text.proofs.Laws.{then, named, nothing}
-use Rattle.trial_step.specs.TrialLine.{trialValues}
-use Rattle.trial_step.proofs.line.Buffer.{cycle-shows}
+use Rattle.trial_step.specs.TrialLine.{trial_values}
+use Rattle.trial_step.proofs.line.Buffer.{cycle_shows}
 use Rattle.trial_step.proofs.line.put_values.Statement.{statement}
 use Rattle.trial_step.proofs.line.put_values.Tie as tie
 
@@ -45,7 +45,7 @@ put-buffer-requires-2 c κs = search rules
 returns : tie.Need-returns
 returns c =
     let start = c.before.before.before.before in
-    named (ap (λ a. trialValues a start.args.buffer.now) (sym c.enum_told.given.1)) nothing
+    named (ap (λ a. trial_values a start.args.buffer.now) (sym c.enum_told.given.1)) nothing
 
 same_length : tie.Need-same-length
 same_length c = search rules
@@ -55,13 +55,13 @@ returns-2 c =
     let called = c.before.before in
     let arm = called.before.before.before in
     let start = arm.before.before.before.before in
-    named (ap (λ a. trialValues a start.args.buffer.now) (sym arm.answer.given.1))
+    named (ap (λ a. trial_values a start.args.buffer.now) (sym arm.answer.given.1))
     called.put-read.ensures
 
 returns-3 : tie.Need-returns-3
 returns-3 c =
     let start = c.before.before.before.before in
-    named (ap (λ a. trialValues a start.args.buffer.now) (sym c.enum-told2.given.1)) nothing
+    named (ap (λ a. trial_values a start.args.buffer.now) (sym c.enum-told2.given.1)) nothing
 
 same-length-2 : tie.Need-same-length-2
 same-length-2 c = search rules
@@ -75,7 +75,7 @@ returns-4 c =
     let arm = first.before.before.before in
     let buffer = arm.before.before.before.before.args.buffer.now in
     named
-    (cycle-shows arm.answer2.given.0.0 buffer ∙ ap (λ a. trialValues a buffer) (sym arm.answer2.given.1))
+    (cycle_shows arm.answer2.given.0.0 buffer ∙ ap (λ a. trial_values a buffer) (sym arm.answer2.given.1))
     (then
     (then first.put_byte.ensures (named (ap decimal count.count_of.ensures) middle.put-decimal.ensures))
     last.put-buffer.ensures)
@@ -88,7 +88,7 @@ returns-5 c =
     let called = c.before.before in
     let arm = called.before.before in
     let buffer = arm.before.before.before.before.args.buffer.now in
-    named (ap (λ a. trialValues a buffer) (sym arm.enum-told3.given.1)) called.put-buffer2.ensures
+    named (ap (λ a. trial_values a buffer) (sym arm.enum-told3.given.1)) called.put-buffer2.ensures
 
 pub put-values-spec : {M : Type 1} → statement M
 put-values-spec =

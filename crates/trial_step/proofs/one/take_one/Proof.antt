@@ -10,22 +10,22 @@ use lib.ListN.{get_or, take}
 use lib.Seq.{length-take-le}
 use borrow.Author.Rules.{rules}
 use Rattle.text.specs.Text.{Puts}
-use Rattle.text.specs.Fields.{longAt}
-use Rattle.text.specs.Lines.{newline, answerText}
+use Rattle.text.specs.Fields.{long_at}
+use Rattle.text.specs.Lines.{newline, answer_text}
 use Rattle.settings.specs.Node.{places}
 use Rattle.domain.specs.declared.Domain.{Domain}
-use Rattle.domain.specs.Records.{recordAt}
-use Rattle.slave_answer.specs.Answer.{frameNumber}
+use Rattle.domain.specs.Records.{record_at}
+use Rattle.slave_answer.specs.Answer.{frame_number}
 use Rattle.call_frame.specs.declared.FrameCall.{FrameCall}
-use Rattle.call_frame.specs.FrameCall.{frameCallOf}
+use Rattle.call_frame.specs.FrameCall.{frame_call_of}
 use Rattle.node.specs.declared.Node.{Node}
 use Rattle.node.specs.declared.frames.NodeFrame.{NodeFrame}
-use Rattle.node.specs.Store.{storedIn}
-use Rattle.node.specs.Frame.{frameStored}
-use Rattle.node.proofs.Sixteen.{looked-up}
-use Rattle.node.proofs.frames.Stored.{call-stored}
-use Rattle.bench_record.specs.Record.{payloadOf}
-use Rattle.trial_step.specs.One.{oneTaken, OneStepped}
+use Rattle.node.specs.Store.{stored_in}
+use Rattle.node.specs.Frame.{frame_stored}
+use Rattle.node.proofs.Sixteen.{looked_up}
+use Rattle.node.proofs.frames.Stored.{call_stored}
+use Rattle.bench_record.specs.Record.{payload_of}
+use Rattle.trial_step.specs.One.{one_taken, OneStepped}
 use Rattle.trial_step.proofs.Laws.{numbered}
 use Rattle.trial_step.proofs.one.take_one.Statement.{statement}
 use Rattle.trial_step.proofs.one.take_one.Tie as tie
@@ -33,22 +33,22 @@ use Rattle.trial_step.proofs.one.take_one.Tie as tie
 taken :
     (n : Node) (item : ℕ) (bytes : List ℕ) {code time number at end : ℕ} {payload before after : List ℕ} {d : Domain}
     {call : FrameCall} →
-    code ≡ get_or bytes 3 0 → time ≡ longAt bytes 4 → payload ≡ payloadOf bytes →
-    d ≡ recordAt n.domains (code % 32 % places) →
-    call ≡ frameCallOf d n.kept (record { 0 = time }) (take (8 - code / 32) payload) →
-    number ≡ frameNumber call.answer → Puts (answerText item number ++ newline) at before end after →
+    code ≡ get_or bytes 3 0 → time ≡ long_at bytes 4 → payload ≡ payload_of bytes →
+    d ≡ record_at n.domains (code % 32 % places) →
+    call ≡ frame_call_of d n.kept (record { 0 = time }) (take (8 - code / 32) payload) →
+    number ≡ frame_number call.answer → Puts (answer_text item number ++ newline) at before end after →
     OneStepped n item bytes at before
-    (record { node = storedIn n (code % 32 % places) call.domain call.kept; at = end; goes_on = true })
+    (record { node = stored_in n (code % 32 % places) call.domain call.kept; at = end; goes_on = true })
     after
 taken n item bytes {code} {time} {payload} {call} c t p looked called m line =
-    let is : frameStored n (code % 32 % places) call ≡ oneTaken n bytes =
-    call-stored n (code % 32 % places) (record { 0 = time }) (take (8 - code / 32) payload) looked called
+    let is : frame_stored n (code % 32 % places) call ≡ one_taken n bytes =
+    call_stored n (code % 32 % places) (record { 0 = time }) (take (8 - code / 32) payload) looked called
     ∙ (λ i.
     let at = c i % 32 % places in
-    frameStored n at
-    (frameCallOf (recordAt n.domains at) n.kept (record { 0 = t i }) (take (8 - c i / 32) (p i))))
+    frame_stored n at
+    (frame_call_of (record_at n.domains at) n.kept (record { 0 = t i }) (take (8 - c i / 32) (p i))))
     in
-    numbered item (ap (λ (f : NodeFrame). f.node) is) (m ∙ ap (λ (f : NodeFrame). frameNumber f.answer) is) line
+    numbered item (ap (λ (f : NodeFrame). f.node) is) (m ∙ ap (λ (f : NodeFrame). frame_number f.answer) is) line
 
 byte-at-requires : tie.Need-byte-at-requires
 byte-at-requires c κs = search rules
@@ -112,7 +112,7 @@ returns c =
     code.byte_at.ensures
     time.long-at.ensures
     made.payload.ensures
-    (looked-up a.t1 _ start.well-formed.0 _ _ (mod-lt _ (lit< tt)))
+    (looked_up a.t1 _ start.well-formed.0 _ _ (mod-lt _ (lit< tt)))
     called.frame-lent.ensures
     told.number.ensures
     wrote.put-number.ensures

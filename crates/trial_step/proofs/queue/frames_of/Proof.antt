@@ -1,10 +1,10 @@
--- `trial_step::queue::frames_of` meets its contract: the part is `part-is`. Assumes nothing.
+-- `trial_step::queue::frames_of` meets its contract: the part is `part_is`. Assumes nothing.
 use Prim.Native.Nat.{ℕ, ◌+◌, ◌-◌, ◌*◌, min}
 use mathlib.Core.Path.{ap, ◌∙◌}
 use lib.ListN.{length, take, drop}
 use borrow.Author.Rules.{rules}
-use Rattle.trial_step.specs.Queue.{frameBytes}
-use Rattle.trial_step.proofs.queue.Laws.{part-is}
+use Rattle.trial_step.specs.Queue.{frame_bytes}
+use Rattle.trial_step.proofs.queue.Laws.{part_is}
 use Rattle.trial_step.proofs.queue.frames_of.Statement.{statement}
 use Rattle.trial_step.proofs.queue.frames_of.Tie as tie
 
@@ -51,10 +51,10 @@ returns c =
     let start = frames.before in
     let count = start.before in
     let bytes = count.before.before.args.bytes.now in
-    part-is bytes (20 + 8 * count.byte_at.result) (frameBytes bytes) start.least.ensures
+    part_is bytes (20 + 8 * count.byte_at.result) (frame_bytes bytes) start.least.ensures
     (more.least2.ensures
     ∙ ap (λ (k : ℕ). min k (length bytes - start.least.result)) frames.frame-bytes.ensures)
-    ∙ ap (λ (k : ℕ). take (frameBytes bytes) (drop (20 + 8 * k) bytes)) count.byte_at.ensures
+    ∙ ap (λ (k : ℕ). take (frame_bytes bytes) (drop (20 + 8 * k) bytes)) count.byte_at.ensures
 
 pub frames-of-spec : {M : Type 1} → statement M
 frames-of-spec =

@@ -1,5 +1,5 @@
 -- `trial_step::queue::readings_of` meets its contract. The invariant: the first i readings are the i numbers behind the
--- first 20 bytes, and a turn is `fields-put`. The measure is what is left of the 255.
+-- first 20 bytes, and a turn is `fields_put`. The measure is what is left of the 255.
 -- Assumes nothing.
 use Prim.Native.Nat.{ℕ, ◌-◌, ◌≤◌}
 use mathlib.Core.Path.{◌≡◌, refl, sym, ap, ◌∙◌}
@@ -7,14 +7,14 @@ use native.Mathlib.Omega.{arith}
 use lib.ListN.{length, take, length-set}
 use lib.Seq.{take_all}
 use borrow.Author.Rules.{rules}
-use Rattle.text.specs.Fields.{longAt, longsAt}
-use Rattle.text.proofs.fields.Laws.{fields-put}
+use Rattle.text.specs.Fields.{long_at, longs_at}
+use Rattle.text.proofs.fields.Laws.{fields_put}
 use Rattle.trial_step.proofs.queue.readings_of.Statement.{statement}
 use Rattle.trial_step.proofs.queue.readings_of.Tie as tie
 
 abbrev invariant-loop : tie.invariant-loop
 invariant-loop bytes readings₀ i₀ readings i =
-    (i ≤ 255) × (length readings ≡ 255) × (take i readings ≡ longsAt i bytes 20)
+    (i ≤ 255) × (length readings ≡ 255) × (take i readings ≡ longs_at i bytes 20)
 
 abbrev decreases-loop : tie.decreases-loop
 decreases-loop bytes readings₀ i₀ readings i = 255 - i
@@ -52,7 +52,7 @@ loop-again c =
     let args = at.before.before.args in (
       omega arith,
       simp length-set at.loop.invariant.1,
-      fields-put (longAt args.bytes.now) 8 at.loop.readings at.loop.i 20 _ _
+      fields_put (long_at args.bytes.now) 8 at.loop.readings at.loop.i 20 _ _
           (omega (arith, at.loop.invariant.1)) (omega arith) c.long-at.ensures at.loop.invariant.2,
     )
 
@@ -62,7 +62,7 @@ returns c =
     let args = at.before.before.args in
     let all : at.loop.i ≡ 255 = omega arith in
     sym (take_all at.loop.i at.loop.readings (omega (arith, at.loop.invariant.1))) ∙ at.loop.invariant.2
-    ∙ ap (λ (k : ℕ). longsAt k args.bytes.now 20) all
+    ∙ ap (λ (k : ℕ). longs_at k args.bytes.now 20) all
 
 pub readings-of-spec : {M : Type 1} → statement M
 readings-of-spec =

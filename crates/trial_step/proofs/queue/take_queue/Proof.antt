@@ -9,15 +9,15 @@ use lib.ListN.{length, get_or, take, drop, replicate}
 use lib.Seq.{length-take-le}
 use borrow.Author.Rules.{rules}
 use Rattle.text.specs.Text.{Puts}
-use Rattle.text.specs.Fields.{pair_at, longAt, longsAt}
+use Rattle.text.specs.Fields.{pair_at, long_at, longs_at}
 use Rattle.text.proofs.Laws.{named}
-use Rattle.text.proofs.fields.Laws.{fields-take}
+use Rattle.text.proofs.fields.Laws.{fields_take}
 use Rattle.node.specs.declared.Node.{Node}
 use Rattle.node_queue.specs.declared.NodeQueue.{NodeQueue}
 use Rattle.node_queue.specs.Queue.{QueuedIn}
-use Rattle.trial_step.specs.TrialLine.{queueLine}
-use Rattle.trial_step.specs.Queue.{givenReadings, givenFrames, lentAnswers, QueueStepped}
-use Rattle.trial_step.proofs.Laws.{buffer, lent-least, lent-count, lent_is, shown-room, shown-is}
+use Rattle.trial_step.specs.TrialLine.{queue_line}
+use Rattle.trial_step.specs.Queue.{given_readings, given_frames, lent_answers, QueueStepped}
+use Rattle.trial_step.proofs.Laws.{buffer, lent_least, lent_count, lent_is, shown-room, shown-is}
 use Rattle.trial_step.proofs.queue.Laws.{queued}
 use Rattle.trial_step.proofs.queue.take_queue.Statement.{statement}
 use Rattle.trial_step.proofs.queue.take_queue.Tie as tie
@@ -25,19 +25,19 @@ use Rattle.trial_step.proofs.queue.take_queue.Tie as tie
 taken :
     (n : Node) (item : ℕ) (bytes : List ℕ) {readings frames left before after : List ℕ} {count room at end : ℕ}
     {r : NodeQueue} →
-    count ≡ get_or bytes 3 0 → count < 256 → readings ≡ longsAt 255 bytes 20 → frames ≡ givenFrames bytes →
+    count ≡ get_or bytes 3 0 → count < 256 → readings ≡ longs_at 255 bytes 20 → frames ≡ given_frames bytes →
     room ≡ min (pair_at bytes 12) 512 → QueuedIn n (take count readings) frames (take room buffer) r left →
     length left ≡ length (take room buffer) →
-    Puts (queueLine item r.answer (take room (left ++ drop room buffer))) at before end after →
+    Puts (queue_line item r.answer (take room (left ++ drop room buffer))) at before end after →
     QueueStepped n item bytes at before (record { node = r.node; at = end; goes_on = true }) after
 taken n item bytes {readings} {left} {count} {room} {r} c m rs fs b q long line =
-    let ts : take count readings ≡ givenReadings bytes =
-    ap (take count) rs ∙ fields-take (longAt bytes) 8 count 255 20 (omega arith) ∙ ap (λ (k : ℕ). longsAt k bytes 20) c
+    let ts : take count readings ≡ given_readings bytes =
+    ap (take count) rs ∙ fields_take (long_at bytes) 8 count 255 20 (omega arith) ∙ ap (λ (k : ℕ). longs_at k bytes 20) c
     in
-    let most : room ≤ 512 = lent-least (pair_at bytes 12) b in
-    let lent : take room buffer ≡ lentAnswers bytes = lent_is room most ∙ ap (λ (k : ℕ). replicate k 0xA5) b in
+    let most : room ≤ 512 = lent_least (pair_at bytes 12) b in
+    let lent : take room buffer ≡ lent_answers bytes = lent_is room most ∙ ap (λ (k : ℕ). replicate k 0xA5) b in
     queued item bytes (subst₃ (λ xs ys zs. QueuedIn n xs ys zs r left) ts fs lent q)
-    (named (ap (queueLine item r.answer) (shown-is room most left long)) line)
+    (named (ap (queue_line item r.answer) (shown-is room most left long)) line)
 
 byte-at-requires : tie.Need-byte-at-requires
 byte-at-requires c κs = search rules
@@ -69,11 +69,11 @@ frames-of-requires c κs = search rules
 array-borrow-prefix-buffer : tie.Need-array-borrow-prefix-buffer
 array-borrow-prefix-buffer c =
     let room = c.before.before in
-    lent-least room.before.pair-at.result room.least.ensures
+    lent_least room.before.pair-at.result room.least.ensures
 
 slice-aggregate-on-queue-2 : tie.Need-slice-aggregate-on-queue-2
 slice-aggregate-on-queue-2 c =
-    lent-count c.before.before.before.least.result (array-borrow-prefix-buffer c.before)
+    lent_count c.before.before.before.least.result (array-borrow-prefix-buffer c.before)
 
 on-queue-requires : tie.Need-on-queue-requires
 on-queue-requires c κs = search rules

@@ -3,9 +3,9 @@
 -- Assumes nothing.
 use mathlib.Core.Path.{◌≡◌, sym, ap, ◌∙◌}
 use borrow.Author.Tests.{ne_eqb}
-use Rattle.master_send.specs.Send.{is_at, dueIn}
-use Rattle.node_words.specs.Words.{recordBy}
-use Rattle.words_cycle.proofs.Due.{not-due}
+use Rattle.master_send.specs.Send.{is_at, due_in}
+use Rattle.node_words.specs.Words.{record_by}
+use Rattle.words_cycle.proofs.Due.{not_due}
 use borrow.Author.Rules.{rules}
 use Rattle.words_cycle.proofs.turns.due_by.Statement.{statement}
 use Rattle.words_cycle.proofs.turns.due_by.Tie as tie
@@ -14,7 +14,7 @@ asked : (c : tie.After-due-at) →
     let role = c.before.before in
     let held = role.before.before.before.before.before in
     let a = held.before.before.before.before.before.before.before.before.args in
-    c.due-at.result ≡ dueIn (recordBy a.given.now a.state.now) a.t
+    c.due-at.result ≡ due_in (record_by a.given.now a.state.now) a.t
 asked c =
     let role = c.before.before in
     let held = role.before.before.before.before.before in
@@ -26,7 +26,7 @@ shared-slice-read-kinds c = search rules
 returns : tie.Need-returns
 returns c =
     let a = c.before.before.before.before.args in
-    sym (not-due a.given.now a.state.now a.t (ne_eqb _ _ c.if1.true))
+    sym (not_due a.given.now a.state.now a.t (ne_eqb _ _ c.if1.true))
 
 shared-slice-read-held-of : tie.Need-shared-slice-read-held-of
 shared-slice-read-held-of c = search rules

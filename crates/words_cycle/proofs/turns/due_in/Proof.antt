@@ -4,8 +4,8 @@
 use Prim.Native.Nat.{◌+◌, ◌-◌}
 use mathlib.Core.Path.{◌≡◌, ◌∙◌}
 use native.Mathlib.Omega.{arith}
-use Rattle.master_send.specs.Send.{isDue}
-use Rattle.node_words.specs.Words.{settingsAt, stateAt, part_of, recordBy}
+use Rattle.master_send.specs.Send.{is_due}
+use Rattle.node_words.specs.Words.{settings_at, state_at, part_of, record_by}
 use borrow.Author.Rules.{rules}
 use Rattle.words_cycle.proofs.turns.due_in.Statement.{statement}
 use Rattle.words_cycle.proofs.turns.due_in.Tie as tie
@@ -53,12 +53,12 @@ returns : tie.Need-returns
 returns c =
     let a = c.before.before.before.before.args in
     let words = a.node.now in
-    let from = settingsAt a.at in
+    let from = settings_at a.at in
     let size : from + 11 - from ≡ 11 = omega arith in
-    let behind : from + 11 ≡ stateAt a.at = omega arith in
+    let behind : from + 11 ≡ state_at a.at = omega arith in
     let next : from + 11 + 11 - (from + 11) ≡ 11 = omega arith in
     c.due-by.ensures
-    ∙ (λ i. isDue (recordBy (part_of from (size i) words) (part_of (behind i) (next i) words)) a.t)
+    ∙ (λ i. is_due (record_by (part_of from (size i) words) (part_of (behind i) (next i) words)) a.t)
 
 pub due-in-spec : {M : Type 1} → statement M
 due-in-spec =

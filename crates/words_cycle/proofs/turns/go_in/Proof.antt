@@ -11,16 +11,16 @@ use native.Mathlib.Omega.{arith}
 use lib.ListN.{length}
 use Rattle.clock.specs.declared.reading.VirtualLocalTime.{VirtualLocalTime}
 use Rattle.settings.specs.Node.{places}
-use Rattle.words_cycle.specs.Cycle.{Went, wentBy}
+use Rattle.words_cycle.specs.Cycle.{Went, went_by}
 use Rattle.words_cycle.proofs.Turned.{One, over, asked-rests, asked-sends}
-use Rattle.words_cycle.proofs.Rest.{Rest, onward, at-end}
+use Rattle.words_cycle.proofs.Rest.{Rest, onward, at_end}
 use Rattle.words_cycle.proofs.turns.go_in.Statement.{statement}
 use Rattle.words_cycle.proofs.turns.go_in.Tie as tie
 
 abbrev invariant-loop : tie.invariant-loop
 invariant-loop node₀ first t most out₀ at₀ next₀ sent₀ turns₀ node out at next sent turns =
     (turns ≤ places) × (at < places) × (sent ≤ turns) × (length out ≡ length out₀)
-    × Rest (wentBy node₀ first t most) out₀ most t (places - turns) at sent node next out
+    × Rest (went_by node₀ first t most) out₀ most t (places - turns) at sent node next out
 
 abbrev decreases-loop : tie.decreases-loop
 decreases-loop node₀ first t most out₀ at₀ next₀ sent₀ turns₀ node out at next sent turns = places - turns
@@ -66,7 +66,7 @@ loop-holds c = (
   omega arith,
   omega arith,
   refl,
-  record { words-after = refl; next_one = refl; count = omega arith; bytes = refl },
+  record { words_after_lem = refl; next_one = refl; count = omega arith; bytes = refl },
 )
 
 turn-in-requires : tie.Need-turn-in-requires invariant-loop decreases-loop
@@ -102,7 +102,7 @@ same_length : tie.Need-same-length invariant-loop decreases-loop
 same_length c = c.before.loop.invariant.3
 
 returns : tie.Need-returns invariant-loop decreases-loop
-returns c = at-end _ _ _ _ _ _ _ _ _ _ (left_is c.before.loop.invariant.4 (omega arith))
+returns c = at_end _ _ _ _ _ _ _ _ _ _ (left_is c.before.loop.invariant.4 (omega arith))
 
 pub go-in-spec : {M : Type 1} → statement M
 go-in-spec =

@@ -65,7 +65,7 @@ returns-3 c =
     let entry = taken.before.before.before.before.before.before.before in
     let a = entry.args in
     step-sends a.node.now a.at a.t a.out.now a.sent _ _ entry.requires.0 taken.record-in.ensures
-    stepped.send.ensures _ _ _ answered.answer.given.1 put.put-sent.ensures
+    stepped.send.ensures _ _ _ answered.answer.given.1 put.put_sent.ensures
     written.write-frame.ensures.bytes
 
 pub turn-in-spec : {M : Type 1} → statement M

@@ -2,7 +2,7 @@
 -- Assumes nothing.
 use mathlib.Core.Path.{ap, ◌∙◌}
 use Rattle.slave_answer.specs.declared.FrameAnswer.{FrameAnswer}
-use Rattle.slave_answer.specs.Answer.{frameNumber}
+use Rattle.slave_answer.specs.Answer.{frame_number}
 use Rattle.words_frame.specs.Frame.{told}
 use borrow.Author.Rules.{rules}
 use Rattle.words_frame.proofs.frames.frame_in.Statement.{statement}
@@ -24,8 +24,8 @@ returns c =
     let entry = taken.before.before.before in
     let is = taken.take_in.ensures.answer in
     record {
-      number = c.number.ensures ∙ ap frameNumber is;
-      words-after = taken.take_in.ensures.words-after;
+      number = c.number.ensures ∙ ap frame_number is;
+      words_after_lem = taken.take_in.ensures.words_after_lem;
       tells = last.tell.ensures ∙ ap (λ (r : FrameAnswer). told r entry.args.taken.now) is;
     }
 

@@ -3,9 +3,9 @@
 -- Assumes nothing.
 use mathlib.Core.Path.{◌≡◌, sym, ap, ◌∙◌}
 use mathlib.Core.Bool.{true, false}
-use Rattle.slave_answer.specs.Answer.{frameNumber}
+use Rattle.slave_answer.specs.Answer.{frame_number}
 use Rattle.call_frame.specs.declared.FrameCall.{FrameCall}
-use Rattle.words_frame.specs.Frame.{isStored, calledIn}
+use Rattle.words_frame.specs.Frame.{is_stored, called_in}
 use borrow.Author.Rules.{rules}
 use Rattle.words_frame.proofs.frames.take_in.Statement.{statement}
 use Rattle.words_frame.proofs.frames.take_in.Tie as tie
@@ -13,7 +13,7 @@ use Rattle.words_frame.proofs.frames.take_in.Tie as tie
 abbrev called : tie.After-is-stored → FrameCall
 called n =
     let a = n.before.before.before.before.before.before.before.before.args in
-    calledIn a.node.now a.t a.bytes.now
+    called_in a.node.now a.t a.bytes.now
 
 as_called : (n : tie.After-is-stored) → n.before.before.frame-call.result ≡ called n
 as_called n =
@@ -24,10 +24,10 @@ as_called n =
       call.before.before.before.before.named-domain.ensures,
     )
 
-is-put : (n : tie.After-is-stored) → n.is-stored.result ≡ isStored (frameNumber (called n).answer)
+is-put : (n : tie.After-is-stored) → n.is-stored.result ≡ is_stored (frame_number (called n).answer)
 is-put n =
     n.is-stored.ensures
-    ∙ ap isStored (n.before.number.ensures ∙ ap (λ (r : FrameCall). frameNumber r.answer) (as_called n))
+    ∙ ap is_stored (n.before.number.ensures ∙ ap (λ (r : FrameCall). frame_number r.answer) (as_called n))
 
 named-domain-requires : tie.Need-named-domain-requires
 named-domain-requires c κs = search rules
@@ -57,18 +57,18 @@ returns : tie.Need-returns
 returns c =
     let arm = c.before.before.before.before in
     let n = arm.before in
-    let put : isStored (frameNumber (called n).answer) ≡ true = sym (is-put n) ∙ arm.if1.true in
+    let put : is_stored (frame_number (called n).answer) ≡ true = sym (is-put n) ∙ arm.if1.true in
     let named = n.before.before.before.before.before.before in
     record {
       answer = ap (λ (r : FrameCall). r.answer) (as_called n);
-      words-after = rw (put, c.put-frame.ensures, as_called n, named.named-domain.ensures);
+      words_after_lem = rw (put, c.put-frame.ensures, as_called n, named.named-domain.ensures);
     }
 
 returns-2 : tie.Need-returns-2
 returns-2 c =
     let n = c.before in
-    let left : isStored (frameNumber (called n).answer) ≡ false = sym (is-put n) ∙ c.if1.false in
-    record { answer = ap (λ (r : FrameCall). r.answer) (as_called n); words-after = rw left }
+    let left : is_stored (frame_number (called n).answer) ≡ false = sym (is-put n) ∙ c.if1.false in
+    record { answer = ap (λ (r : FrameCall). r.answer) (as_called n); words_after_lem = rw left }
 
 pub take-in-spec : {M : Type 1} → statement M
 take-in-spec =

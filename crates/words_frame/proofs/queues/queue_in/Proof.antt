@@ -7,9 +7,9 @@ use native.Mathlib.Omega.{arith}
 use lib.ListN.{length, length-set}
 use borrow.Author.Rules.{rules}
 use Rattle.node_queue.specs.declared.QueueAnswer.TheVariants.{Taken}
-use Rattle.node_queue.proofs.Taken.{is-taken}
-use Rattle.words_frame.specs.Queue.{queueWords, queueNumbers}
-use Rattle.words_frame.proofs.Rest.{Rest, onward, queued, at-end}
+use Rattle.node_queue.proofs.Taken.{is_taken_lem}
+use Rattle.words_frame.specs.Queue.{queue_words, queue_numbers}
+use Rattle.words_frame.proofs.Rest.{Rest, onward, queued, at_end}
 use Rattle.words_frame.proofs.queues.queue_in.Statement.{statement}
 use Rattle.words_frame.proofs.queues.queue_in.Tie as tie
 
@@ -17,7 +17,7 @@ abbrev invariant-loop : tie.invariant-loop
 invariant-loop node₀ readings frames answers₀ i₀ node answers i =
     (i ≤ length readings) × (length readings ≤ 32) × (length frames ≡ 8 * length readings)
     × (length readings ≤ length answers₀) × (length answers ≡ length answers₀)
-    × Rest (queueWords Taken node₀ readings frames) (queueNumbers Taken node₀ readings frames answers₀) readings
+    × Rest (queue_words Taken node₀ readings frames) (queue_numbers Taken node₀ readings frames answers₀) readings
     frames i node answers
 
 abbrev decreases-loop : tie.decreases-loop
@@ -46,9 +46,9 @@ loop-holds c =
     let judged = c.before.before in
     let a = judged.before.before.before.before.args in
     let told =
-    is-taken (length a.readings.now) (length a.frames.now) (length a.answers.now)
+    is_taken_lem (length a.readings.now) (length a.frames.now) (length a.answers.now)
     (sym judged.judge.ensures ∙ c.enum_told.given.1)
-    in (omega arith, told.1, told.2, told.0, refl, record { words-after = refl; bytes = refl })
+    in (omega arith, told.1, told.2, told.0, refl, record { words_after_lem = refl; bytes = refl })
 
 mul-take-in : tie.Need-overflow-mul-take-in invariant-loop decreases-loop
 mul-take-in c = omega arith
@@ -110,7 +110,7 @@ returns-2 : tie.Need-returns-2 invariant-loop decreases-loop
 returns-2 c =
     let told = c.before.before in
     let judged = told.before.before in
-    at-end _ _ _ _ _ _ _ (omega arith)
+    at_end _ _ _ _ _ _ _ (omega arith)
     (sym told.enum_told.given.1 ∙ judged.judge.ensures)
     c.before.loop.invariant.5
 

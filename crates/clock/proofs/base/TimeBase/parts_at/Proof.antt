@@ -1,11 +1,11 @@
 -- `clock::base::TimeBase::parts_at` meets its contract: where no second is lost the time at the reading has as many
--- nanoseconds as its parts (`advance-exact`), and elsewhere it is `advance` by what `since` gives.
+-- nanoseconds as its parts (`advance_exact`), and elsewhere it is `advance` by what `since` gives.
 -- Assumes nothing.
 use mathlib.Core.Path.{refl}
 use native.Mathlib.Omega.{arith}
 use borrow.Author.Rules.{rules}
 use Rattle.clock.specs.Reading.{span_of}
-use Rattle.clock.proofs.Laws.{advance-exact}
+use Rattle.clock.proofs.Laws.{advance_exact}
 use Rattle.clock.proofs.base.TimeBase.parts_at.Statement.{statement}
 use Rattle.clock.proofs.base.TimeBase.parts_at.Tie as tie
 
@@ -21,7 +21,7 @@ add-t11 c = search rules
 returns : tie.Need-returns
 returns c =
     let args = c.before.before.before.before.before.before.before.before.args in
-    let exact = advance-exact args.self.time (span_of args.self.at args.t) (omega arith) in
+    let exact = advance_exact args.self.time (span_of args.self.at args.t) (omega arith) in
     omega arith
 
 advance-requires : tie.Need-advance-requires

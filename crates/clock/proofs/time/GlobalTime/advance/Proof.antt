@@ -5,7 +5,7 @@ use mathlib.Core.Path.{ap, ap₂}
 use native.Mathlib.Omega.{arith}
 use borrow.Author.Rules.{rules}
 use Rattle.clock.specs.declared.over.Over.{Over}
-use Rattle.clock.specs.Time.{timeOf}
+use Rattle.clock.specs.Time.{time_of}
 use Rattle.clock.proofs.time.GlobalTime.advance.Statement.{statement}
 use Rattle.clock.proofs.time.GlobalTime.advance.Tie as tie
 
@@ -32,14 +32,14 @@ returns c =
     let e = c.before.before.before.before.carried-over.ensures in
     let seconds = ap (λ (o : Over). o.seconds) e in
     let nanoseconds = ap (λ (o : Over). o.nanoseconds) e in
-    ap₂ timeOf (omega arith) (omega arith)
+    ap₂ time_of (omega arith) (omega arith)
 
 returns-2 : tie.Need-returns-2
 returns-2 c =
     let e = c.before.before.before.carried-over.ensures in
     let seconds = ap (λ (o : Over). o.seconds) e in
     let nanoseconds = ap (λ (o : Over). o.nanoseconds) e in
-    ap₂ timeOf (omega arith) (omega arith)
+    ap₂ time_of (omega arith) (omega arith)
 
 pub advance-spec : {M : Type 1} → statement M
 advance-spec =

@@ -15,7 +15,7 @@ returns : tie.Need-returns
 returns c =
     let a = c.before.before.before.args in
     let early : a.self.0 ≤ a.seconds = omega (arith, c.before.if1.true) in
-    rw (le-leb _ _ early) c.is-time.ensures
+    rw (le-leb _ _ early) c.is_time_lem.ensures
 
 returns-2 : tie.Need-returns-2
 returns-2 c =

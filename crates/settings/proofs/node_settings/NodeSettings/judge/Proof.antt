@@ -11,22 +11,22 @@ use Rattle.promise.proofs.Tests.{both, refuted}
 use Rattle.refusal.specs.declared.Refusal.TheVariants.{Settings}
 use Rattle.settings.specs.declared.node_settings.NodeSettings.{NodeSettings}
 use Rattle.settings.specs.declared.node_settings.Verdict.TheVariants.{Good, Refused}
-use Rattle.settings.specs.Node.{allGood, judgedOf}
+use Rattle.settings.specs.Node.{all_good, judged_of}
 use Rattle.settings.proofs.node_settings.NodeSettings.judge.Statement.{statement}
 use Rattle.settings.proofs.node_settings.NodeSettings.judge.Tie as tie
 
 record InRange (n : NodeSettings) : Type 0 where
   syncs : (1 ≤ n.syncs_per_cycle) × (n.syncs_per_cycle ≤ 16)
-  domains : allGood n.domains ≡ true
+  domains : all_good n.domains ≡ true
 
-good : (n : NodeSettings) → InRange n → Good ≡ judgedOf n
+good : (n : NodeSettings) → InRange n → Good ≡ judged_of n
 good n r = rw (le-leb _ _ r.syncs.0, le-leb _ _ r.syncs.1, r.domains)
 
-refused : (n : NodeSettings) → (InRange n → ⊥) → Refused Settings ≡ judgedOf n
+refused : (n : NodeSettings) → (InRange n → ⊥) → Refused Settings ≡ judged_of n
 refused n never =
     ap (λ (b : Bool). cond b Good (Refused Settings))
     (refuted _ (λ e.
-    let told = both _ (allGood n.domains) e in
+    let told = both _ (all_good n.domains) e in
     let syncs = both _ _ told.0 in
     never (record { syncs = (leb-true _ _ syncs.0, leb-true _ _ syncs.1); domains = told.1 })))
 
@@ -49,12 +49,12 @@ all-good-requires c κs = search rules
 returns-3 : tie.Need-returns-3
 returns-3 c =
     good (second c.before.before.before)
-    (record { syncs = omega arith; domains = sym c.before.all-good.ensures ∙ c.if3.true })
+    (record { syncs = omega arith; domains = sym c.before.all_good_lem.ensures ∙ c.if3.true })
 
 returns-4 : tie.Need-returns-4
 returns-4 c =
     refused (second c.before.before.before)
-    (λ r. false≢true (sym c.if3.false ∙ c.before.all-good.ensures ∙ r.domains))
+    (λ r. false≢true (sym c.if3.false ∙ c.before.all_good_lem.ensures ∙ r.domains))
 
 pub judge-spec : {M : Type 1} → statement M
 judge-spec = tie.close (tie.spec returns returns-2 all-good-requires returns-3 returns-4)

@@ -3,7 +3,7 @@ use Prim.Native.Nat.{◌%◌}
 use native.Mathlib.Omega.{arith}
 use borrow.Author.Rules.{rules}
 use Rattle.settings.specs.Node.{places}
-use Rattle.sheet_tally.proofs.sheet.Sixteen.{looked-up}
+use Rattle.sheet_tally.proofs.sheet.Sixteen.{looked_up}
 use Rattle.sheet_tally.proofs.sheet.Sheet.with.Statement.{statement}
 use Rattle.sheet_tally.proofs.sheet.Sheet.with.Tie as tie
 
@@ -40,7 +40,7 @@ returns c =
     let start = arm.before.before in
     rw (
       c.counted.ensures,
-      looked-up start.args.t1 _ start.well-formed.0 (arm.entry.given.0.0 % places) _ (omega arith),
+      looked_up start.args.t1 _ start.well-formed.0 (arm.entry.given.0.0 % places) _ (omega arith),
       arm.entry.given.1,
     )
 
