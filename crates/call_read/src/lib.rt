@@ -12,7 +12,7 @@ use settings::{Role, UserBytes};
 use slave_status::status_at;
 
 // What a read shows.
-#[derive(Drop)]
+#[derive(Clone, Copy)]
 pub struct Shown {
     pub time: GlobalTime,
     pub status: u8,
@@ -20,7 +20,7 @@ pub struct Shown {
     pub updates: u8,
 }
 
-#[derive(Drop)]
+#[derive(Clone, Copy)]
 pub enum ReadAnswer {
     Time(Shown),
     Refused(Refusal),

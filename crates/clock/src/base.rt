@@ -6,14 +6,14 @@ use crate::reading::VirtualLocalTime;
 use crate::time::GlobalTime;
 
 // A global time and the reading at which it was true.
-#[derive(Drop)]
+#[derive(Clone, Copy)]
 pub struct TimeBase {
     pub time: GlobalTime,
     pub at: VirtualLocalTime,
 }
 
 // A base: none set yet, or one that is held.
-#[derive(Drop)]
+#[derive(Clone, Copy)]
 pub enum Held {
     Unset,
     Set(TimeBase),

@@ -3,7 +3,7 @@ ghost use Rattle.std.specs.Prelude.{◌≡◌};
 ghost use Rattle.clock.specs.Reading.{is_reading, span_of};
 
 // A reading of the local clock, in nanoseconds.
-#[derive(Drop)]
+#[derive(Clone, Copy)]
 pub struct VirtualLocalTime(pub u64);
 
 impl VirtualLocalTime {

@@ -5,7 +5,7 @@ ghost use Rattle.clock.specs.Time.{is_time, is_within, most_received, most_read,
 use crate::over::carried_over;
 
 // A global time: seconds, and nanoseconds.
-#[derive(Drop)]
+#[derive(Clone, Copy)]
 pub struct GlobalTime(pub u64, pub u32);
 
 impl GlobalTime {

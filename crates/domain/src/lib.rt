@@ -10,7 +10,7 @@ use clock::{Held, VirtualLocalTime};
 use settings::{DomainSettings, UserBytes};
 
 // A slave's SYNC that waits for its FUP. Its reading is T2.
-#[derive(Drop)]
+#[derive(Clone, Copy)]
 pub struct Pair {
     pub at: VirtualLocalTime,
     pub seconds: u32,
@@ -20,14 +20,14 @@ pub struct Pair {
 }
 
 // "It is either waiting for a SYNC, or has an open pair."
-#[derive(Drop)]
+#[derive(Clone, Copy)]
 pub enum Pairing {
     Waiting,
     Open(Pair),
 }
 
 // The SYNC that a slave accepted last, and the row: the SYNCs with a good counter since the first one, up to H.
-#[derive(Drop)]
+#[derive(Clone, Copy)]
 pub enum LastSync {
     Unknown,
     Seen {
@@ -39,7 +39,7 @@ pub enum LastSync {
 
 // The SYNC that a master sent last: none yet; open, with its whole time; or no longer open, since its
 // FUP was given.
-#[derive(Drop)]
+#[derive(Clone, Copy)]
 pub enum Sending {
     Never,
     Open {
@@ -52,14 +52,14 @@ pub enum Sending {
 }
 
 // A slave's leap bits: never both. With a bit stands its run: the updates within both thresholds since the leap.
-#[derive(Drop)]
+#[derive(Clone, Copy)]
 pub enum Leap {
     None,
     Future(u8),
     Past(u8),
 }
 
-#[derive(Drop)]
+#[derive(Clone, Copy)]
 pub struct Domain {
     pub settings: DomainSettings,
     pub base: Held,

@@ -5,7 +5,7 @@ ghost use Rattle.frame.specs.Ids.{id_at};
 
 use crate::nibbles::COUNTERS;
 
-#[derive(Drop)]
+#[derive(Clone, Copy)]
 pub struct DataIds {
     pub sync: [u8; DataIds::COUNTERS],
     pub fup: [u8; DataIds::COUNTERS],

@@ -5,14 +5,14 @@ ghost use Rattle.frame.specs.Values.{domain_in};
 
 // Plain, with the user byte that byte 1 carries, 1 in a SYNC and 2 in a FUP; or secured, where byte 1
 // is the check byte and no value.
-#[derive(Drop)]
+#[derive(Clone, Copy)]
 pub enum Protection {
     Plain(u8),
     Secured,
 }
 
 // The values of a SYNC. Domain and counter are below 16.
-#[derive(Drop)]
+#[derive(Clone, Copy)]
 pub struct Sync {
     pub domain: u8,
     pub counter: u8,
@@ -22,7 +22,7 @@ pub struct Sync {
 }
 
 // The values of a FUP. Domain and counter are below 16, OVS is below 4.
-#[derive(Drop)]
+#[derive(Clone, Copy)]
 pub struct Fup {
     pub domain: u8,
     pub counter: u8,
@@ -32,7 +32,7 @@ pub struct Fup {
     pub protection: Protection,
 }
 
-#[derive(Drop)]
+#[derive(Clone, Copy)]
 pub enum Frame {
     Sync(Sync),
     Fup(Fup),

@@ -5,7 +5,7 @@ ghost use Rattle.frame_check.specs.Check.{is_taken, takes_plain, takes_secured, 
 
 use frame::{DataIds, FrameType, counter_of, id_at};
 
-#[derive(Drop)]
+#[derive(Clone, Copy)]
 pub enum CheckMode {
     Validated,
     NotValidated,

@@ -11,7 +11,7 @@ use master_follow::{Follow, follow_up};
 use master_rules::protection;
 use refusal::Refusal;
 
-#[derive(Drop)]
+#[derive(Clone, Copy)]
 pub enum ConfirmAnswer {
     Followed(Fup),
     Refused(Refusal),

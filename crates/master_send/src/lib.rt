@@ -11,7 +11,7 @@ use frame::{COUNTERS, Sync};
 use master_rules::{Due, due_at, protection};
 
 // What a domain's turn in a main cycle gives.
-#[derive(Drop)]
+#[derive(Clone, Copy)]
 pub enum SendAnswer {
     Sent(Sync),
     NotDue,

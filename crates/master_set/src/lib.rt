@@ -7,7 +7,7 @@ use clock::{GlobalTime, Held, TimeBase, VirtualLocalTime};
 use domain::{Domain, next_update};
 use refusal::Refusal;
 
-#[derive(Drop)]
+#[derive(Clone, Copy)]
 pub enum SetAnswer {
     Done,
     Refused(Refusal),

@@ -10,7 +10,7 @@ use refusal::Refusal;
 use round::go_round;
 
 // How many frames a main cycle wrote, or the number by which it is refused.
-#[derive(Drop)]
+#[derive(Clone, Copy)]
 pub enum CycleAnswer {
     Sent(usize),
     Refused(Refusal),

@@ -20,7 +20,7 @@ pub use reads::on_read;
 pub use sets::{NodeSet, on_set};
 use settings::{DomainSettings, NodeSettings, Verdict};
 
-#[derive(Drop)]
+#[derive(Clone, Copy)]
 pub struct Node {
     pub domains: [Domain; Node::DOMAINS],
     // The greatest reading of a successful frame, set, main cycle or confirmation call.

@@ -11,7 +11,7 @@ use master_set::SetAnswer;
 use node::{CycleAnswer, Node, on_confirmation, on_frame, on_main_cycle, on_read, on_set};
 use slave_answer::FrameAnswer;
 
-#[derive(Drop)]
+#[derive(Clone, Copy)]
 pub enum Request {
     // At a reading.
     Frame(VirtualLocalTime),
@@ -25,7 +25,7 @@ pub enum Request {
     Confirm(u8, VirtualLocalTime, u8),
 }
 
-#[derive(Drop)]
+#[derive(Clone, Copy)]
 pub enum CallAnswer {
     Frame(FrameAnswer),
     Read(ReadAnswer),

@@ -11,7 +11,7 @@ use text::pieces::{Filled, keep_rest, next_item, refill, say_unread, with_room, 
 use trial_step::item::item_length;
 use trial_step::trial_step;
 
-#[derive(Drop)]
+#[derive(Clone, Copy)]
 pub enum Program {
     Bench,
     Trial,
@@ -23,7 +23,7 @@ const RECORD: usize = 20;
 // No line is longer (`line_fits`).
 const LINE: usize = 1088;
 
-#[derive(Drop)]
+#[derive(Clone, Copy)]
 struct Run {
     node: Node,
     // The number of the next item.

@@ -11,7 +11,7 @@ use frame::DataIds;
 use frame_check::CheckMode;
 
 // What a domain is in this node.
-#[derive(Drop)]
+#[derive(Clone, Copy)]
 pub enum Role {
     Absent,
     Slave,
@@ -19,17 +19,17 @@ pub enum Role {
 }
 
 // How a master sends.
-#[derive(Drop)]
+#[derive(Clone, Copy)]
 pub enum Security {
     Plain,
     Secured,
 }
 
 // User bytes 0, 1 and 2.
-#[derive(Drop)]
+#[derive(Clone, Copy)]
 pub struct UserBytes(pub u8, pub u8, pub u8);
 
-#[derive(Drop)]
+#[derive(Clone, Copy)]
 pub struct DomainSettings {
     // A slave's: follow-up time F, loss time L, leap thresholds, in nanoseconds.
     pub follow_up_time: u64,

@@ -6,7 +6,7 @@ use crate::DomainSettings;
 use crate::ranges::is_good;
 use refusal::Refusal;
 
-#[derive(Drop)]
+#[derive(Clone, Copy)]
 pub struct NodeSettings {
     // S, SYNC frames per main cycle.
     pub syncs_per_cycle: u8,

@@ -13,7 +13,7 @@ use sheet_tally::sheet::Sheet;
 use text::pieces::next_item;
 
 // Where a reading of records stands.
-#[derive(Drop)]
+#[derive(Clone, Copy)]
 pub struct Account {
     pub node: Node,
     pub sheet: Sheet,

@@ -7,14 +7,14 @@ ghost use Rattle.sheet_sum.specs.Sum.{no_sum, sum_with, sum_of, plus_of, minus_o
 use clock::magnitude;
 
 // A number of 128 bits.
-#[derive(Drop)]
+#[derive(Clone, Copy)]
 pub struct Wide {
     pub high: u64,
     pub low: u64,
 }
 
 // All D that are not below 0, and how far below 0 the others are.
-#[derive(Drop)]
+#[derive(Clone, Copy)]
 pub struct Sum {
     pub ahead: Wide,
     pub behind: Wide,

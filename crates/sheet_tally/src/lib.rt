@@ -19,7 +19,7 @@ use sheet_sum::Sum;
 use slave_answer::FrameAnswer;
 use text::pieces::next_item;
 
-#[derive(Drop)]
+#[derive(Clone, Copy)]
 pub struct Tally {
     // By column: SYNCs taken, FUPs taken, frames refused under 5, 6, 7, 8 and 9. Held at the last number of 64 bits.
     pub counts: [u64; Tally::COLUMNS],

@@ -7,7 +7,7 @@ use crate::entry::Entry;
 use settings::NodeSettings;
 use text::pieces::next_item;
 
-#[derive(Drop)]
+#[derive(Clone, Copy)]
 pub struct Sheet {
     pub tallies: [Tally; Sheet::DOMAINS],
     // Held at the last number of 64 bits.

@@ -2,7 +2,7 @@
 ghost use Rattle.std.specs.Prelude.{◌≡◌};
 ghost use Rattle.sheet_tally.specs.Spread.{lesser, greater, spread_with};
 
-#[derive(Drop)]
+#[derive(Clone, Copy)]
 pub enum Spread {
     // There is no D.
     None,

@@ -7,7 +7,7 @@ use domain::Domain;
 use refusal::Refusal;
 
 // Taken, with the D of an update; or refused.
-#[derive(Drop)]
+#[derive(Clone, Copy)]
 pub enum FrameAnswer {
     SyncTaken,
     FirstTaken,
