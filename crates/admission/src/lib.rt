@@ -1,6 +1,8 @@
 // What a call tests before it steps a record (paper 01, "Refusal numbers", 1 and 4): the reading, and whether
 // the record is that of the domain asked for, in the role needed; and the reading that is kept after it. No record
 // is taken here: the tests go by a record's number and role. A frame's tests, 1 to 4, are in `frames`.
+#![tactic(auto)]
+
 pub mod frames;
 
 ghost use Rattle.std.specs.Prelude.{◌≡◌};

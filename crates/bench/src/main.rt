@@ -1,4 +1,6 @@
 // The bench (paper 01, "Bench program"): records of 20 bytes from standard input, a line for each.
+#![tactic(auto)]
+
 use runs::Program;
 
 fn main() {

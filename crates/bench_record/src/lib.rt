@@ -1,5 +1,7 @@
 // A record of 20 bytes (paper 01, "Bench program"): the mark C7 3A, a kind, a domain, the reading and a
 // payload of 8 bytes. What a kind does not use may be anything.
+#![tactic(auto)]
+
 pub mod line;
 pub mod step;
 

@@ -1,4 +1,6 @@
 // The bench's settings (paper 01, "Bench program").
+#![tactic(auto)]
+
 ghost use Rattle.std.specs.Prelude.{◌≡◌};
 ghost use Rattle.bench_settings.specs.Bench.{slave_with, bench_master, bench_with};
 

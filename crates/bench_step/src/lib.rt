@@ -1,4 +1,6 @@
 // A record of the bench (paper 01, "Bench program"): the call it asks for, and its line.
+#![tactic(auto)]
+
 pub mod line;
 
 ghost use Rattle.bench_record.specs.Step.{Answered};

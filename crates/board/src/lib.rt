@@ -1,6 +1,8 @@
 // The calls of a node for C: include/knottgust.h declares them, and docs/BOARD.md says what they cost. The product
 // lends the node as words; each call is the one of its name on them, and promises the same. An archive for this
 // machine, and an object for a controller, are made of this crate.
+#![tactic(auto)]
+
 ghost use Rattle.words_new.specs.New.{NewIn};
 ghost use Rattle.words_frame.specs.Frame.{FramedIn};
 ghost use Rattle.words_frame.specs.Queue.{QueuedIn};

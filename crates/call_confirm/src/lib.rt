@@ -1,4 +1,6 @@
 // A confirmation for one record (paper 01, "A master's domain" and "Refusal numbers").
+#![tactic(auto)]
+
 ghost use Rattle.std.specs.Prelude.{◌≡◌};
 ghost use Rattle.call_confirm.specs.ConfirmCall.{ConfirmedIn};
 

@@ -1,4 +1,6 @@
 // A frame for one record (paper 01, "A slave's domain" and "Refusal numbers", and paper 02, request 5).
+#![tactic(auto)]
+
 ghost use Rattle.std.specs.Prelude.{◌≡◌};
 ghost use Rattle.call_frame.specs.FrameCall.{frame_kept, frame_call_of};
 

@@ -1,5 +1,7 @@
 // A read of one record (paper 01, "Refusal numbers": "A read gives time, status, user bytes and update
 // counter together and never changes the state").
+#![tactic(auto)]
+
 ghost use Rattle.std.specs.Prelude.{◌≡◌};
 ghost use Rattle.call_read.specs.Answer.{read_number};
 ghost use Rattle.call_read.specs.ReadCall.{status_for, user_for, read_call_of};

@@ -1,4 +1,6 @@
 // A set for one record (paper 01, "A master's domain" and "Refusal numbers").
+#![tactic(auto)]
+
 ghost use Rattle.std.specs.Prelude.{◌≡◌};
 ghost use Rattle.call_set.specs.SetCall.{set_call_of};
 

@@ -2,6 +2,8 @@
 // ties one to the other, and how two times differ. No function takes a reading where a time is expected, nor a time
 // where a reading is; a span of readings is plain nanoseconds, and a time is carried on by one. Nothing here refuses:
 // each function answers on every value, also on those that no node holds.
+#![tactic(auto)]
+
 pub mod apart;
 mod base;
 pub mod difference;

@@ -1,5 +1,7 @@
 // The edges of the two clocks, a line each: the limits, the carry, the order, D at both ends of 64
 // bits, and the thresholds. A time is written as seconds and nanoseconds, a reading as nanoseconds.
+#![tactic(auto)]
+
 use clock::{GlobalTime, TimeBase, TimeOrder, VirtualLocalTime};
 use test_line::{number, signed, word, yes_no};
 

@@ -1,5 +1,7 @@
 // Paper 01, "Frames": "The tests compare with that library's published vectors". These, and inputs
 // at the edges. A line is the input in hexadecimal, the DataID where there is one, and the answer.
+#![tactic(auto)]
+
 ghost use Rattle.std.specs.Prelude.{◌≡◌, length};
 
 use test_line::{byte, hex, word};

@@ -2,6 +2,8 @@
 // holds of its settings, its base, and what its role adds. What is not there is a case of an enum and
 // no flag beside a value, so no two fresh records differ in what nobody sees. A constructor stands
 // here, and the one rule that both roles share; `slave_sync`, `master_set` and the like have the others.
+#![tactic(auto)]
+
 ghost use Rattle.std.specs.Prelude.{◌≡◌};
 ghost use Rattle.domain.specs.Fresh.{fresh_of};
 ghost use Rattle.domain.specs.Updates.{next_update};

@@ -1,6 +1,8 @@
 // A tracker's use of the library, whole: settings, a node, a SYNC and its FUP received, the time read; the next two
 // from the queue of the bus driver, in one call; a time set, a SYNC sent in a main cycle, its FUP at the confirmation.
 // Readings are written out where a product reads its clock, and frames where it has them from the bus.
+#![tactic(auto)]
+
 use io::{print_decimal, print_hex, write_all};
 use knottgust::{
     CheckMode, CycleAnswer, DomainSettings, FrameAnswer, GlobalTime, Node, NodeSettings,

@@ -1,6 +1,8 @@
 // SYNC and FUP frames, plain and secured (paper 01, "Frames"): the values of a frame, its types, byte 2,
 // and the DataIDs. The codec knows frames and not the node: a domain here is a number in a frame, and
 // nanoseconds of any size are values.
+#![tactic(auto)]
+
 mod data_ids;
 mod nibbles;
 mod types;

@@ -1,5 +1,7 @@
 // The four check modes (paper 01, "Frames"; names as in documents 002 and 003). The check byte is
 // judged over the bytes as received, reserved bits included.
+#![tactic(auto)]
+
 ghost use Rattle.std.specs.Prelude.{◌≡◌, length};
 ghost use Rattle.frame_check.specs.Check.{is_taken, takes_plain, takes_secured, is_right};
 

@@ -1,5 +1,7 @@
 // Bytes to values (paper 01, "Frames"). Reserved bits are ignored, and the check byte is not looked at.
 // Bytes of every length are taken; what cannot be read is answered.
+#![tactic(auto)]
+
 ghost use Rattle.std.specs.Prelude.{◌≡◌, ◌<◌, length};
 ghost use Rattle.frame_read.specs.Read.{read_of, named_domain, sync_in, fup_in, word_of};
 

@@ -1,6 +1,8 @@
 // Frames of each kind, a line each (paper 01, "Frames"): values to bytes, bytes to values, there
 // and back, into a lent buffer, and the verdicts of the check modes. Bytes, user bytes among them,
 // are written in hexadecimal, the other values in decimal.
+#![tactic(auto)]
+
 mod buffers;
 mod check_modes;
 mod inputs;

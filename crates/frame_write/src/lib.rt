@@ -1,6 +1,8 @@
 // Values to bytes (paper 01, "Frames"). Reserved bits are written as 0. A value out of its range is
 // written modulo the range: no frame that a node makes has one.
 // What cannot be written is answered, and then no lent byte has changed.
+#![tactic(auto)]
+
 ghost use Rattle.std.specs.Prelude.{◌+◌, ◌≤◌, ◌≡◌, length};
 ghost use Rattle.std.proofs.Math.Seq.{paste};
 ghost use Rattle.frame_write.specs.Write.{flags, framed_of, bytes_of, WrittenAt};

@@ -3,3 +3,4 @@
 // confirmation time, over seconds and within one, and the slave holds a wrong time; one where a pair whose SYNC
 // arrives a nanosecond before the moment plus L is not taken; and some that meet all, within one second. What the
 // must-fail edits of `history` make of its statements is false: a history refutes each. No function.
+#![tactic(auto)]

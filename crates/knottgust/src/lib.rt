@@ -1,6 +1,8 @@
 // What a product uses, by one name: `use knottgust::on_frame;`. The calls of a node and what they answer; calls on the
 // record of one domain; the settings that a node is made of; readings and times; the refusal numbers. No function of
 // its own: every name is passed on from the crate that has it.
+#![tactic(auto)]
+
 pub use call_confirm::{ConfirmCall, confirm_call};
 pub use call_frame::FrameCall;
 pub use call_read::{ReadAnswer, Shown, read_call};

@@ -1,6 +1,8 @@
 // A frame on one record that the product lends (paper 02, request 11): the record is updated where it stands, and the
 // kept reading, one for all records of a node, is passed beside it and given back. It is `frame_call` on the lent
 // record: 1, 2, 3, 4, 5; then 6, 15, or 7, 8, 9; and 4 also for a frame of another domain than the record's.
+#![tactic(auto)]
+
 ghost use Rattle.std.specs.Prelude.{◌≡◌};
 ghost use Rattle.call_frame.specs.FrameCall.{frame_call_of};
 ghost use Rattle.lent_frame.specs.Lent.{TakenOn};

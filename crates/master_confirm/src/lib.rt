@@ -1,6 +1,8 @@
 // A confirmation on a master's record (paper 01, "A master's domain"). The step answers, and gives the
 // record back by value, as it was where it refuses. The frame is answered as values; whoever has the
 // buffer writes it. The role is not looked at here.
+#![tactic(auto)]
+
 ghost use Rattle.std.specs.Prelude.{◌≡◌};
 ghost use Rattle.master_confirm.specs.Confirm.{confirm_number, confirm_of};
 

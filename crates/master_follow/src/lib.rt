@@ -1,4 +1,6 @@
 // The FUP of an open SYNC (paper 01, "A master's domain").
+#![tactic(auto)]
+
 ghost use Rattle.std.specs.Prelude.{◌≡◌};
 ghost use Rattle.master_follow.specs.Follow.{follow_of};
 

@@ -2,6 +2,8 @@
 // step answers, and gives the record back by value, as it was where it is not due. The frame is answered
 // as values; whoever has the buffer writes it. Of the steps on a record this one alone asks for the role, since a main
 // cycle passes over all records.
+#![tactic(auto)]
+
 ghost use Rattle.std.specs.Prelude.{◌≡◌};
 ghost use Rattle.master_send.specs.Send.{is_due, send_of};
 

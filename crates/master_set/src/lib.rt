@@ -1,5 +1,7 @@
 // A time that is set on a master's record (paper 01, "A master's domain"). The step answers, and gives
 // the record back by value, as it was where it refuses. The role is not looked at here.
+#![tactic(auto)]
+
 ghost use Rattle.std.specs.Prelude.{◌≡◌};
 ghost use Rattle.master_set.specs.Set.{set_number, set_of};
 

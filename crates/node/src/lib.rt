@@ -2,6 +2,8 @@
 // each, state by value in and out: a call looks a record up, calls it or goes round, and stores what comes back. No
 // call has a `requires`; each answers, or refuses by a number, and then, but under 6 and 15, gives the node back as it
 // was.
+#![tactic(auto)]
+
 pub mod confirms;
 pub mod cycles;
 pub mod frames;

@@ -1,5 +1,7 @@
 // Any call to a node (paper 01): which one, what it is given, and what it answers. The bytes of a frame and
 // the lent buffer stand beside it.
+#![tactic(auto)]
+
 ghost use Rattle.std.specs.Prelude.{◌≡◌};
 ghost use Rattle.node_call.specs.Calls.{call_number};
 ghost use Rattle.node_call.specs.Called.{CalledIn};

@@ -1,6 +1,8 @@
 // A node's receive queue (paper 02, request 4): up to 32 frames with their readings in one call, and a number for each
 // in a lent buffer. The frames are taken as `on_frame` takes them, one after another on the one node: no frame costs a
 // copy of it.
+#![tactic(auto)]
+
 ghost use Rattle.std.specs.Prelude.{◌≡◌};
 ghost use Rattle.node_queue.specs.Queue.{queue_answer, queue_number, QueuedIn};
 

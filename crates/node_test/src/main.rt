@@ -1,6 +1,8 @@
 // Calls to a node that no constructor gives (paper 01): its master waits for a confirmation as long as 32 bits
 // can say, was updated 255 times, and sends counter 15 next. So 4 s come over, which no good C lets come, and the
 // counters pass their ends. A line each, as the trial has them; the trial's tests have every other case.
+#![tactic(auto)]
+
 use clock::VirtualLocalTime;
 use domain::Domain;
 use frame::DataIds;

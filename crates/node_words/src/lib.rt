@@ -2,6 +2,8 @@
 // A record is taken out of the words by value, and of its state a call puts back its own part only: a frame the first
 // eight words, a set three of them, a main cycle and a confirmation the last three. No call copies a node. Any words
 // say a node.
+#![tactic(auto)]
+
 mod puts;
 mod records;
 

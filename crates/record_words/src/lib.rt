@@ -11,6 +11,8 @@
 //             8 sent's reading  9 packed(seconds; counter, code, next counter, 0)  10 nanoseconds   a main cycle's
 //
 // A packed word is a half and four bytes.
+#![tactic(auto)]
+
 mod given;
 mod pack;
 mod parts;

@@ -1,5 +1,7 @@
 // The refusal numbers (paper 01, "Refusal numbers", and paper 02): a named case for each, and its number.
 // Calls answer a case; the number is what a customer sees. 0 is success, and no case here.
+#![tactic(auto)]
+
 ghost use Rattle.std.specs.Prelude.{◌≡◌};
 ghost use Rattle.refusal.specs.Numbers.{number_of};
 

@@ -1,6 +1,8 @@
 // The main cycle's round (paper 01, "A master's domain"): sixteen turns over sixteen records, from the one
 // after that served last. Each due domain sends until as many have sent as a cycle may; frames are
 // written one after another, the n-th at byte 8 n, and bytes beyond them stay.
+#![tactic(auto)]
+
 pub mod turns;
 
 ghost use Rattle.std.specs.Prelude.{◌≤◌, ◌*◌};

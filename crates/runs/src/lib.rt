@@ -1,6 +1,8 @@
 // A run of the bench or of the trial over standard input: items in, a line for each out. Of what is read and
 // written no contract can speak: these functions are proved safe and ending, and what an item does is the promise
 // of `bench_step` and `trial_step`.
+#![tactic(auto)]
+
 use bench_record::step::Step;
 use bench_settings::bench_settings;
 use bench_step::bench_step;

@@ -1,6 +1,8 @@
 // The weekly precision sheet (paper 02, request 13): bench records on standard input, the sheet on standard output. Of
 // what is read and written no contract can speak: these functions are proved safe and ending. What the records make of
 // the sheet, and its text, are the promises of `sheet_step`.
+#![tactic(auto)]
+
 use bench_settings::bench_settings;
 use node::Node;
 use sheet_step::report::put_report;

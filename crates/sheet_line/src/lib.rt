@@ -1,4 +1,6 @@
 // The sheet in text (paper 02, request 13): a line for each slave, and the closing line.
+#![tactic(auto)]
+
 pub mod signed;
 
 ghost use Rattle.text.specs.Text.{Puts};

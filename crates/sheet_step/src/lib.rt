@@ -1,5 +1,7 @@
 // Records of the bench taken into a sheet (paper 02, request 13): each makes the call that it asks for, and its answer
 // is counted. What is read and written is the program's, `sheet`.
+#![tactic(auto)]
+
 pub mod report;
 
 ghost use Rattle.std.specs.Prelude.{◌/◌, ◌≡◌, length};

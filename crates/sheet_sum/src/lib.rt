@@ -1,5 +1,7 @@
 // The exact sum of D (paper 02, request 13). What is ahead and what is behind are added up apart, in 128 bits each, and
 // one is taken from the other when the sum is told: no partial sum can leave its bits, and none has a sign.
+#![tactic(auto)]
+
 ghost use Rattle.std.specs.Prelude.{◌≡◌, eqb};
 ghost use Rattle.sheet_sum.specs.Wide.{value_of, gap_of, more_of};
 ghost use Rattle.sheet_sum.specs.Sum.{no_sum, sum_with, sum_of, plus_of, minus_of, told_of};

@@ -1,5 +1,7 @@
 // What the sheet counts (paper 02, request 13): a tally of one domain's frames. The sheet of all domains, and whose a
 // record is, have a file each.
+#![tactic(auto)]
+
 pub mod entry;
 pub mod sheet;
 pub mod spread;

@@ -1,5 +1,7 @@
 // The sum of D at both ends of 64 and of 128 bits, and lines that no bench record makes: a sum that is over, the ends
 // of D, counts at the end of 64 bits, a refusal that no column counts.
+#![tactic(auto)]
+
 use refusal::Refusal;
 use sheet_line::put_line;
 use sheet_sum::{Sum, Told, Wide};

@@ -1,5 +1,7 @@
 // What a slave answers to a frame (paper 01, "Refusal numbers"), and the step of any frame: the answer, and the
 // record after it.
+#![tactic(auto)]
+
 ghost use Rattle.std.specs.Prelude.{◌≡◌};
 ghost use Rattle.slave_answer.specs.Answer.{frame_number};
 

@@ -1,5 +1,7 @@
 // The counter check of a SYNC (paper 01, "A slave's domain", and paper 02, request 5): whether its counter is good,
 // and whether the row of good ones is complete.
+#![tactic(auto)]
+
 ghost use Rattle.std.specs.Prelude.{◌≡◌};
 ghost use Rattle.slave_counter.specs.Counter.{verdict_of};
 ghost use Rattle.slave_counter.specs.Row.{row_of, with_row, reached, checked_of};

@@ -1,5 +1,7 @@
 // A frame on a slave's record (paper 01, "A slave's domain"): the check mode, then SYNC or FUP. Roles
 // are not looked at here: the node asks the right record.
+#![tactic(auto)]
+
 ghost use Rattle.std.specs.Prelude.{◌≡◌};
 ghost use Rattle.slave_frame.specs.Step.{frame_of};
 

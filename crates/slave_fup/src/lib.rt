@@ -1,5 +1,7 @@
 // A FUP on a slave's record (paper 01, "A slave's domain"): it answers, and gives the record back by
 // value, as it was where it refuses. Roles are not looked at here: the node asks the right record.
+#![tactic(auto)]
+
 ghost use Rattle.std.specs.Prelude.{◌≡◌};
 ghost use Rattle.slave_fup.specs.Fup.{fup_of};
 

@@ -1,5 +1,7 @@
 // The status of a slave's record at a reading (paper 01, "A slave's domain"; bits as in document 000). Roles are
 // not looked at here: the node asks the right record.
+#![tactic(auto)]
+
 ghost use Rattle.std.specs.Prelude.{◌≤◌, ◌≡◌};
 ghost use Rattle.slave_status.specs.Status.{
   base_bits,

@@ -1,5 +1,7 @@
 // A SYNC on a slave's record (paper 01, "A slave's domain", and paper 02, request 5): it answers, and gives the record
 // back by value. Roles are not looked at here: the node asks the right record.
+#![tactic(auto)]
+
 ghost use Rattle.std.specs.Prelude.{◌≡◌};
 ghost use Rattle.domain.specs.Fields.{with_pairing, with_last};
 ghost use Rattle.slave_sync.specs.Sync.{sync_of};

@@ -1,5 +1,7 @@
 // The parts of a line of the test programs: words, numbers, bytes, times. Each is written to standard output, of
 // which no contract can speak: what is proved is that each is safe and ends.
+#![tactic(auto)]
+
 use clock::Held;
 use libc::STDOUT_FILENO;
 use text::put_nine_digits;

@@ -1,5 +1,7 @@
 // Text in a lent buffer. Each function writes from a place on and answers the place after what it
 // wrote. Where the buffer ends, nothing more is written and the place stays.
+#![tactic(auto)]
+
 pub mod fields;
 pub mod lines;
 pub mod pieces;

@@ -1,4 +1,6 @@
 // The trial: settings blocks and call records from standard input, a line for each.
+#![tactic(auto)]
+
 use runs::Program;
 
 fn main() {

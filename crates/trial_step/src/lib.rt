@@ -1,4 +1,6 @@
 // An item of the trial: a settings block, a queue, a frame on one record or any other call record, and its line.
+#![tactic(auto)]
+
 pub mod block;
 mod domain_block;
 pub mod item;

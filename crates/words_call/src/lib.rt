@@ -1,6 +1,8 @@
 // A read, a set and a confirmation of a node in words that a product lends (paper 01): the record of the domain is
 // taken out of the words and called; under 0 the part that the call changes is put back, and under any other number
 // the words and every lent byte stay as they were.
+#![tactic(auto)]
+
 ghost use Rattle.std.specs.Prelude.{◌≡◌, length};
 ghost use Rattle.words_call.specs.Calls.{shown_words, ReadIn, SetIn, ConfirmedBy};
 

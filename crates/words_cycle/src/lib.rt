@@ -2,6 +2,8 @@
 // where they stand, from the one after that served last. A record whose role's byte is no master's, or that is not due
 // by its parts, is passed over; one that is due is taken out of the words and sends, and the words of its SYNC are put
 // back. Refused, the words and every lent byte stay as they were.
+#![tactic(auto)]
+
 mod turns;
 
 ghost use Rattle.words_cycle.specs.Cycle.{CycledBy};

@@ -1,6 +1,8 @@
 // A fresh node in words that a product lends, of settings that it gives in words (paper 01, "Settings of a node"): S in
 // the first of them, then eleven for each domain as a record holds them. The words of the node are written in every
 // case: under 14 those of a node with all domains absent and S 1.
+#![tactic(auto)]
+
 ghost use Rattle.std.specs.Prelude.{◌<◌, ◌≡◌, ◌++◌, length, take, replicate};
 ghost use Rattle.settings.specs.Domain.{held_of};
 ghost use Rattle.settings.specs.Node.{places, all_good};

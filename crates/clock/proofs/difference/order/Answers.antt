@@ -11,17 +11,7 @@ use Rattle.clock.specs.declared.difference.TimeOrder.TheVariants.{Earlier, Same,
 use Rattle.clock.specs.Time.{nanoseconds_of}
 use Rattle.clock.specs.Difference.{order_of}
 use Rattle.clock.proofs.apart.Compared.{AheadBy, BehindBy, told_ahead, told_behind}
-use Rattle.clock.proofs.difference.order.Statement.{statement}
-use Rattle.clock.proofs.difference.order.Tie as tie
-
-compare-requires : tie.Need-compare-requires
-compare-requires c κs = search rules
-
-enum_told : tie.Need-enum-told
-enum_told c = search rules
-
-enum-known-m : tie.Need-enum-known-m
-enum-known-m c = search rules
+use Rattle.clock.proofs.difference.order.Goals as goal
 
 module _ (a b : GlobalTime) (m : ℕ) where
   earlier : BehindBy a b m → Earlier ≡ order_of a b
@@ -41,22 +31,18 @@ module _ (a b : GlobalTime) (m : ℕ) where
         lt-ltb (nanoseconds_of b) (nanoseconds_of a) (omega arith),
       )
 
-returns : tie.Need-returns
-returns c =
-    let a = c.before.before.before.args in
-    earlier a.a a.b _ (told_behind _ _ _ (sym c.enum_told.given.1 ∙ c.before.before.compare.ensures))
-
 abbrev told :
-    (c : tie.After-known-told) → let a = c.before.before.before.before.args in
-    AheadBy a.a a.b c.before.m.given.0.0
-told c = told_ahead _ _ _ (sym c.before.m.given.1 ∙ c.before.before.before.compare.ensures)
+    (c : tie.After-known-told) → let a = c.args in
+    AheadBy a.a a.b c.m-1.is.0.0
+told c = told_ahead _ _ _ (sym c.m-1.is.1 ∙ c.compare.ensures)
 
-returns-2 : tie.Need-returns-2
-returns-2 c = same _ _ _ (told c.before) (omega (arith, c.if1.true))
+pub returns-in-Behind : goal.returns-in-Behind
+returns-in-Behind c =
+    let a = c.args in
+    earlier a.a a.b _ (told_behind _ _ _ (sym c.enum_told-1.is.1 ∙ c.compare.ensures))
 
-returns-3 : tie.Need-returns-3
-returns-3 c = later _ _ _ (told c.before) (λ e. omega (arith, c.if1.false))
+pub returns-then-m-eq0 : goal.returns-then-m-eq0
+returns-then-m-eq0 c = same _ _ _ (told c) (omega (arith, c.if-m-eq0.true))
 
-pub order-spec : {M : Type 1} → statement M
-order-spec =
-    tie.close (tie.spec compare-requires enum_told enum-known-m returns returns-2 returns-3)
+pub returns-else-m-eq0 : goal.returns-else-m-eq0
+returns-else-m-eq0 c = later _ _ _ (told c) (λ e. omega (arith, c.if-m-eq0.false))

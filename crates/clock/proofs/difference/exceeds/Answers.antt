@@ -12,27 +12,20 @@ use mir.ValLaws.{to_z-of_z}
 use borrow.Author.Rules.{rules}
 use Rattle.clock.specs.Difference.{exceeds}
 use Rattle.clock.proofs.difference.Signed.{tested, below}
-use Rattle.clock.proofs.difference.exceeds.Statement.{statement}
-use Rattle.clock.proofs.difference.exceeds.Tie as tie
+use Rattle.clock.proofs.difference.exceeds.Goals as goal
 
 compared : (z : ℤ) (x : ℕ) → lt_z z (pos 0) ≡ false → ltb x (nat_abs z) ≡ exceeds z x
 compared (pos m) x e = refl
 compared (negsuc m) x e = cc
 
-magnitude-requires : tie.Need-magnitude-requires
-magnitude-requires c κs = search rules
+pub returns-then-d-lt0 : goal.returns-then-d-lt0
+returns-then-d-lt0 c =
+    let d = c.args.d in
+    rw (below d (tested d c.ranges.d _ c.if-d-lt0.true))
 
-returns : tie.Need-returns
-returns c =
-    let d = c.before.args.d in
-    rw (below d (tested d c.before.ranges.d _ c.if1.true))
-
-returns-2 : tie.Need-returns-2
-returns-2 c =
-    let d = c.before.before.args.d in
-    let f = c.before.before.ranges.d in
+pub returns-else-d-lt0 : goal.returns-else-d-lt0
+returns-else-d-lt0 c =
+    let d = c.args.d in
+    let f = c.ranges.d in
     rw (c.magnitude.ensures, to_z-of_z w64 d f)
-    (compared d c.before.before.args.threshold (tested d f _ c.before.if1.false))
-
-pub exceeds-spec : {M : Type 1} → statement M
-exceeds-spec = tie.close (tie.spec magnitude-requires returns returns-2)
+    (compared d c.args.threshold (tested d f _ c.if-d-lt0.false))
