@@ -11,7 +11,7 @@ use Prim.Native.Nat.{ℕ, ◌*◌, ◌<◌}
 use native.Mathlib.Nat.{mod-lt}
 use lib.Bits.{xor_lt}
 use lib.Dec.{leb, lit<}
-use Rattle.crc8.specs.Crc8.{step_of, eight_steps_of, remainder_of, crc_of, check_of}
+use Rattle.crc8.specs.Crc8.{step_of, eight_steps_of, byte_step_of, remainder_of, crc_of, check_of}
 
 -- ---- bounds
 
@@ -31,7 +31,7 @@ eight_steps_bound remainder = step_bound _
 
 pub remainder_bound : (start : ℕ) (bytes : List ℕ) → start < 0x100 → remainder_of start bytes < 0x100
 remainder_bound start [] h = h
-remainder_bound start (byte ∷ bytes) h = remainder_bound _ bytes (eight_steps_bound _)
+remainder_bound start (byte ∷ bytes) h = remainder_bound (byte_step_of start byte) bytes (eight_steps_bound _)
 
 pub crc_bound : (bytes : List ℕ) → crc_of bytes < 0x100
 unfolding crc_of

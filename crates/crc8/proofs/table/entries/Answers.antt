@@ -3,12 +3,8 @@
 -- what stands at an index. Assumes nothing.
 use Rattle.crc8.specs.Crc8.{step_of, eight_steps_of}
 use Rattle.crc8.proofs.Values.{values_at}
-use Rattle.crc8.proofs.table.entries.Statement.{statement}
-use Rattle.crc8.proofs.table.entries.Tie as tie
+use Rattle.crc8.proofs.table.entries.Goals as goal
 
-returns : tie.Need-returns
+pub returns : goal.returns
 unfolding step_of eight_steps_of
 returns c = values_at eight_steps_of 256
-
-pub entries-spec : {M : Type 1} → statement M
-entries-spec = tie.close (tie.spec returns)
