@@ -13,12 +13,14 @@ use Rattle.text.specs.Text.{digits, spelled}
 -- ---- The last digits of a number: the first of them, then the others. The power is ten to the others' count.
 
 pub power_next : (left power : ℕ) → 0 < left → power ≡ 10 ^ left → power / 10 ≡ 10 ^ (left - 1)
+power_next zero power h e = elim h [ ]
 power_next (suc k) power h e = rw (e, sub-one, pow-suc 10 k) (mul-div_cancel (10 ^ k) (omega arith))
 
 pub digits_next :
     (left n power : ℕ) → 0 < left → power ≡ 10 ^ (left - 1) →
     digits left n ≡ ((48 + n / power % 10) ∷ []) ++ digits (left - 1) n
 unfolding digits
+digits_next zero n power h e = elim h [ ]
 digits_next (suc k) n power h e = rw (e, sub-one)
 
 -- ---- The fewest digits that hold a number spell it in decimal.

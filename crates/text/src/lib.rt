@@ -9,6 +9,7 @@ pub mod pieces;
 ghost use Rattle.std.specs.Prelude.{◌<◌, ◌≡◌, [], ◌∷◌};
 ghost use Rattle.text.specs.Text.{Puts, hex_digit, hex_byte, hex_of, digits, decimal};
 
+#[tactic(auto, unfolding(crate::specs::Text::puts))]
 pub fn put_byte(out: &mut [u8], at: usize, byte: u8) -> usize
     ensures { Puts (byte ∷ []) at out.old result out.new }
 {

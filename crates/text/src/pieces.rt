@@ -2,7 +2,8 @@
 ghost use Rattle.std.specs.Prelude.{min, ◌≡◌, length};
 ghost use Rattle.text.specs.Pieces.{KeptRest, place_for, next_item};
 
-use libc::{STDERR_FILENO, STDIN_FILENO, STDOUT_FILENO};
+use std::io::Read;
+
 // What one read brought: so many bytes are in the buffer now, or none will come.
 #[derive(Drop)]
 pub enum Filled {
@@ -12,18 +13,15 @@ pub enum Filled {
 }
 
 // Reads once into the buffer, after the bytes it holds.
-pub fn refill(input: &mut [u8], held: usize) -> Filled {
+pub fn refill(from: &mut impl Read, input: &mut [u8], held: usize) -> Filled {
     if input.len() < held {
         return Filled::End;
     }
-    let got = libc::read(STDIN_FILENO, &mut input[held..]);
-    if got < 0 {
-        return Filled::Failed;
+    match from.read(&mut input[held..]) {
+        Err(_) => Filled::Failed,
+        Ok(0) => Filled::End,
+        Ok(got) => Filled::Holds(held + got),
     }
-    if got == 0 {
-        return Filled::End;
-    }
-    Filled::Holds(held + io::count(got, &input[held..]))
 }
 
 // The bytes from `used` to `held` go to the start of the buffer. Answers how many they are.
@@ -49,24 +47,24 @@ pub fn least(a: usize, b: usize) -> usize
 }
 
 // The first `length` bytes, all of them where there are fewer. False where they cannot be written.
-pub fn write_out(out: &[u8], length: usize) -> bool {
+pub fn write_out(rt: &impl Print, out: &[u8], length: usize) -> bool {
     if out.len() < length {
-        return io::write_all(STDOUT_FILENO, out);
+        return rt.write_all(out).is_ok();
     }
-    io::write_all(STDOUT_FILENO, &out[..length])
+    rt.write_all(&out[..length]).is_ok()
 }
 
 // The place for a line of at most `line` bytes: what stands in the buffer is written first where there is no
 // room for it.
-pub fn with_room(out: &[u8], at: usize, line: usize) -> usize
+pub fn with_room(rt: &impl Print, out: &[u8], at: usize, line: usize) -> usize
     ensures { result ≡ place_for at line (length out.now) }
 {
     if out.len() < at {
-        write_out(out, at);
+        write_out(rt, out, at);
         return 0;
     }
     if out.len() - at < line {
-        write_out(out, at);
+        write_out(rt, out, at);
         return 0;
     }
     at
@@ -84,6 +82,7 @@ pub fn next_item(item: u64) -> u64
 }
 
 // Says on the error output that reading failed.
-pub fn say_unread() {
-    io::write_all(STDERR_FILENO, b"standard input cannot be read\n");
+pub fn say_unread(rt: &impl Eprint) {
+    let said = rt.eprintln("standard input cannot be read");
+    said.is_ok();
 }
