@@ -1,97 +1,100 @@
-// The parts of a line of the test programs: words, numbers, bytes, times. Each is written to standard output, of
-// which no contract can speak: what is proved is that each is safe and ends.
+// The parts of a line of the test programs: words, numbers, bytes, times. Each is printed, of which no contract can
+// speak: what is proved is that each is safe and ends. A part that cannot be written is left out.
 #![tactic(auto)]
 
 use clock::Held;
-use libc::STDOUT_FILENO;
 use text::put_nine_digits;
 
-pub fn word(text: &[u8]) {
-    io::write_all(STDOUT_FILENO, text);
+pub fn word(rt: &impl Print, text: &[u8]) {
+    let _ = rt.write_all(text);
 }
 
-pub fn yes_no(yes: bool) {
+pub fn yes_no(rt: &impl Print, yes: bool) {
     if yes {
-        word(b" yes");
+        word(rt, b" yes");
     } else {
-        word(b" no");
+        word(rt, b" no");
     }
 }
 
 // ---- numbers, in decimal
 
-pub fn number(n: u64) {
-    word(b" ");
-    io::print_decimal(STDOUT_FILENO, n);
+pub fn number(rt: &impl Print, n: u64) {
+    word(rt, b" ");
+    decimal(rt, n);
 }
 
-pub fn small(n: u8) {
-    number(n as u64);
+pub fn small(rt: &impl Print, n: u8) {
+    number(rt, n as u64);
 }
 
-pub fn signed(d: i64) {
+pub fn signed(rt: &impl Print, d: i64) {
     if d < 0 {
-        word(b" -");
+        word(rt, b" -");
     } else {
-        word(b" ");
+        word(rt, b" ");
     }
-    io::print_decimal(STDOUT_FILENO, clock::magnitude(d));
+    decimal(rt, clock::magnitude(d));
+}
+
+fn decimal(rt: &impl Print, n: u64) {
+    let _ = rt.print(n);
 }
 
 // ---- bytes, in hexadecimal
 
-pub fn byte(value: u8) {
-    word(b" ");
-    digits(value);
+pub fn byte(rt: &impl Print, value: u8) {
+    word(rt, b" ");
+    digits(rt, value);
 }
 
 // Two digits for each, with nothing between them.
-pub fn hex(bytes: &[u8]) {
+pub fn hex(rt: &impl Print, bytes: &[u8]) {
     let mut i = 0;
     while i < bytes.len() {
-        digits(bytes[i]);
+        digits(rt, bytes[i]);
         i += 1;
     }
 }
 
-fn digits(value: u8) {
-    io::print_hex(STDOUT_FILENO, value as u64, 2);
+fn digits(rt: &impl Print, value: u8) {
+    let _ = print!(rt; "{value:02x}");
 }
 
 // ---- times
 
-pub fn reading(t: u64) {
-    word(b"@");
-    io::print_decimal(STDOUT_FILENO, t);
+pub fn reading(rt: &impl Print, t: u64) {
+    word(rt, b"@");
+    decimal(rt, t);
 }
 
 // Seconds, a point, and nanoseconds with nine digits, or ten where they are out of range.
-pub fn time(seconds: u64, nanoseconds: u32) {
-    number(seconds);
-    word(b".");
+pub fn time(rt: &impl Print, seconds: u64, nanoseconds: u32) {
+    number(rt, seconds);
+    word(rt, b".");
     if nanoseconds < 1_000_000_000 {
-        nine_digits(nanoseconds);
+        nine_digits(rt, nanoseconds);
     } else {
-        io::print_decimal(STDOUT_FILENO, nanoseconds as u64);
+        decimal(rt, nanoseconds as u64);
     }
 }
 
-fn nine_digits(n: u32) {
+fn nine_digits(rt: &impl Print, n: u32) {
     let mut digits = [0u8; 9];
     put_nine_digits(&mut digits, 0, n);
-    word(&digits);
+    word(rt, &digits);
 }
 
 // The base of a record.
-pub fn base(held: Held) {
+pub fn base(rt: &impl Print, held: Held) {
     match held {
-        Held::Unset => word(b"; base unset"),
+        Held::Unset => word(rt, b"; base unset"),
         Held::Set(set) => {
             let at = set.at;
             let now = set.time;
-            word(b"; base");
-            time(now.0, now.1);
-            reading(at.0);
+            word(rt, b"; base");
+            time(rt, now.0, now.1);
+            reading(rt, at.0);
         }
     }
 }

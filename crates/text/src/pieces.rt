@@ -83,6 +83,5 @@ pub fn next_item(item: u64) -> u64
 
 // Says on the error output that reading failed.
 pub fn say_unread(rt: &impl Eprint) {
-    let said = rt.eprintln("standard input cannot be read");
-    said.is_ok();
+    let _ = rt.eprintln("standard input cannot be read");
 }
