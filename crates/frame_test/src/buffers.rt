@@ -7,38 +7,38 @@ use frame_write::{Written, write_frame};
 use test_line as line;
 
 // The last place with room in 12 bytes is 4. From `usize::MAX - 7` on, 8 more would wrap.
-pub fn lent() {
-    twelve(plain_sync(), 0);
-    twelve(plain_sync(), 2);
-    twelve(plain_sync(), 4);
-    twelve(plain_sync(), 5);
-    twelve(plain_sync(), 12);
-    twelve(plain_sync(), usize::MAX);
-    twelve(plain_sync(), usize::MAX - 7);
-    twelve(secured_fup(), 4);
-    into(plain_sync(), &mut [0xA5; 8], 0);
-    into(plain_sync(), &mut [0xA5; 8], 1);
-    into(plain_sync(), &mut [0xA5; 7], 0);
-    into(plain_sync(), &mut [0xA5; 7], usize::MAX);
-    into(plain_sync(), &mut [], 0);
-    into(plain_sync(), &mut [], usize::MAX);
+pub fn lent(rt: &impl Print) {
+    twelve(rt, plain_sync(), 0);
+    twelve(rt, plain_sync(), 2);
+    twelve(rt, plain_sync(), 4);
+    twelve(rt, plain_sync(), 5);
+    twelve(rt, plain_sync(), 12);
+    twelve(rt, plain_sync(), usize::MAX);
+    twelve(rt, plain_sync(), usize::MAX - 7);
+    twelve(rt, secured_fup(), 4);
+    into(rt, plain_sync(), &mut [0xA5; 8], 0);
+    into(rt, plain_sync(), &mut [0xA5; 8], 1);
+    into(rt, plain_sync(), &mut [0xA5; 7], 0);
+    into(rt, plain_sync(), &mut [0xA5; 7], usize::MAX);
+    into(rt, plain_sync(), &mut [], 0);
+    into(rt, plain_sync(), &mut [], usize::MAX);
 }
 
-fn twelve(frame: Frame, at: usize) {
-    into(frame, &mut [0xA5; 12], at);
+fn twelve(rt: &impl Print, frame: Frame, at: usize) {
+    into(rt, frame, &mut [0xA5; 12], at);
 }
 
-fn into(frame: Frame, out: &mut [u8], at: usize) {
-    line::word(b"buffer");
-    shown::bytes(out);
-    line::word(b" at");
-    line::number(at as u64);
+fn into(rt: &impl Print, frame: Frame, out: &mut [u8], at: usize) {
+    line::word(rt, b"buffer");
+    shown::bytes(rt, out);
+    line::word(rt, b" at");
+    line::number(rt, at as u64);
     match write_frame(frame, ids(), out, at) {
-        Written::Done => line::word(b" done"),
-        Written::NoRoom => line::word(b" no-room"),
+        Written::Done => line::word(rt, b" done"),
+        Written::NoRoom => line::word(rt, b" no-room"),
     }
-    shown::bytes(out);
-    line::word(b"\n");
+    shown::bytes(rt, out);
+    line::word(rt, b"\n");
 }
 
 fn plain_sync() -> Frame {

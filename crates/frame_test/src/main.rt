@@ -10,21 +10,21 @@ mod reads;
 mod shown;
 mod writes;
 
-fn main() {
-    writes::plain_syncs();
-    writes::secured_syncs();
-    writes::plain_fups();
-    writes::secured_fups();
-    reads::syncs();
-    reads::fups();
-    reads::reserved_bits();
-    reads::lengths();
-    reads::types();
-    reads::there_and_back();
-    buffers::lent();
-    check_modes::right_and_wrong();
-    check_modes::counters();
-    check_modes::reserved_bits();
-    check_modes::plain_with_a_check_byte();
-    check_modes::no_frames();
+fn main(rt: HostRuntime) {
+    writes::plain_syncs(&rt);
+    writes::secured_syncs(&rt);
+    writes::plain_fups(&rt);
+    writes::secured_fups(&rt);
+    reads::syncs(&rt);
+    reads::fups(&rt);
+    reads::reserved_bits(&rt);
+    reads::lengths(&rt);
+    reads::types(&rt);
+    reads::there_and_back(&rt);
+    buffers::lent(&rt);
+    check_modes::right_and_wrong(&rt);
+    check_modes::counters(&rt);
+    check_modes::reserved_bits(&rt);
+    check_modes::plain_with_a_check_byte(&rt);
+    check_modes::no_frames(&rt);
 }

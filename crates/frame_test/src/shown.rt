@@ -2,79 +2,79 @@
 use frame::{Frame, Fup, Protection, Sync};
 use test_line::{byte, hex, number, small, word};
 
-pub fn bytes(list: &[u8]) {
+pub fn bytes(rt: &impl Print, list: &[u8]) {
     if list.len() == 0 {
-        word(b" empty");
+        word(rt, b" empty");
     } else {
-        word(b" ");
-        hex(list);
+        word(rt, b" ");
+        hex(rt, list);
     }
 }
 
 // The bytes of a whole frame.
-pub fn frame_bytes(list: &[u8; 8]) {
-    bytes(list);
+pub fn frame_bytes(rt: &impl Print, list: &[u8; 8]) {
+    bytes(rt, list);
 }
 
-pub fn values(frame: Frame) {
+pub fn values(rt: &impl Print, frame: Frame) {
     match frame {
-        Frame::Sync(s) => sync(s),
-        Frame::Fup(f) => fup(f),
+        Frame::Sync(s) => sync(rt, s),
+        Frame::Fup(f) => fup(rt, f),
     }
 }
 
-fn sync(s: Sync) {
+fn sync(rt: &impl Print, s: Sync) {
     let protection = s.protection;
-    word(b" sync");
-    kind(protection);
-    small(s.domain);
-    small(s.counter);
-    word(b" user");
-    byte(s.user0);
-    user1(protection);
-    word(b" seconds");
-    number(s.seconds as u64);
+    word(rt, b" sync");
+    kind(rt, protection);
+    small(rt, s.domain);
+    small(rt, s.counter);
+    word(rt, b" user");
+    byte(rt, s.user0);
+    user1(rt, protection);
+    word(rt, b" seconds");
+    number(rt, s.seconds as u64);
 }
 
-fn fup(f: Fup) {
+fn fup(rt: &impl Print, f: Fup) {
     let protection = f.protection;
-    word(b" fup");
-    kind(protection);
-    small(f.domain);
-    small(f.counter);
-    user2(protection);
-    flags(f.sgw, f.ovs);
-    word(b" nanoseconds");
-    number(f.nanoseconds as u64);
+    word(rt, b" fup");
+    kind(rt, protection);
+    small(rt, f.domain);
+    small(rt, f.counter);
+    user2(rt, protection);
+    flags(rt, f.sgw, f.ovs);
+    word(rt, b" nanoseconds");
+    number(rt, f.nanoseconds as u64);
 }
 
-fn kind(protection: Protection) {
+fn kind(rt: &impl Print, protection: Protection) {
     match protection {
-        Protection::Plain(_) => word(b" plain"),
-        Protection::Secured => word(b" secured"),
+        Protection::Plain(_) => word(rt, b" plain"),
+        Protection::Secured => word(rt, b" secured"),
     }
 }
 
 // The second user byte of a plain SYNC.
-fn user1(protection: Protection) {
+fn user1(rt: &impl Print, protection: Protection) {
     if let Protection::Plain(user) = protection {
-        byte(user);
+        byte(rt, user);
     }
 }
 
 // The user byte of a plain FUP, the only one.
-fn user2(protection: Protection) {
+fn user2(rt: &impl Print, protection: Protection) {
     if let Protection::Plain(user) = protection {
-        word(b" user");
-        byte(user);
+        word(rt, b" user");
+        byte(rt, user);
     }
 }
 
-fn flags(sgw: bool, ovs: u8) {
+fn flags(rt: &impl Print, sgw: bool, ovs: u8) {
     if sgw {
-        word(b" sgw 1 ovs");
+        word(rt, b" sgw 1 ovs");
     } else {
-        word(b" sgw 0 ovs");
+        word(rt, b" sgw 0 ovs");
     }
-    small(ovs);
+    small(rt, ovs);
 }

@@ -8,11 +8,11 @@ mod record;
 mod steps;
 mod strange;
 
-fn main() {
-    strange::roles();
-    strange::earlier();
-    strange::next_counter();
-    strange::updates();
-    strange::overflow_seconds();
-    strange::nanoseconds();
+fn main(rt: HostRuntime) {
+    strange::roles(&rt);
+    strange::earlier(&rt);
+    strange::next_counter(&rt);
+    strange::updates(&rt);
+    strange::overflow_seconds(&rt);
+    strange::nanoseconds(&rt);
 }

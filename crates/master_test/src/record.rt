@@ -4,77 +4,77 @@ use frame::{Fup, Protection, Sync};
 use refusal::Refusal;
 use test_line as line;
 
-pub fn shown(d: Domain) {
+pub fn shown(rt: &impl Print, d: Domain) {
     let base = d.base;
     let sending = d.sending;
-    line::base(base);
-    sent(sending);
-    ended(d.updates, d.next_counter);
+    line::base(rt, base);
+    sent(rt, sending);
+    ended(rt, d.updates, d.next_counter);
 }
 
-fn sent(sending: Sending) {
+fn sent(rt: &impl Print, sending: Sending) {
     match sending {
-        Sending::Never => line::word(b"; never sent"),
+        Sending::Never => line::word(rt, b"; never sent"),
         Sending::Open {
             counter,
             seconds,
             nanoseconds,
             at,
         } => {
-            line::word(b"; open");
-            line::small(counter);
-            line::time(seconds as u64, nanoseconds);
-            line::reading(at.0);
+            line::word(rt, b"; open");
+            line::small(rt, counter);
+            line::time(rt, seconds as u64, nanoseconds);
+            line::reading(rt, at.0);
         }
         Sending::Confirmed(at) => {
-            line::word(b"; confirmed ");
-            line::reading(at.0);
+            line::word(rt, b"; confirmed ");
+            line::reading(rt, at.0);
         }
     }
 }
 
-fn ended(updates: u8, next_counter: u8) {
-    line::word(b"; updates");
-    line::small(updates);
-    line::word(b" next");
-    line::small(next_counter);
-    line::word(b"\n");
+fn ended(rt: &impl Print, updates: u8, next_counter: u8) {
+    line::word(rt, b"; updates");
+    line::small(rt, updates);
+    line::word(rt, b" next");
+    line::small(rt, next_counter);
+    line::word(rt, b"\n");
 }
 
-pub fn refused(refusal: Refusal) {
-    line::word(b": refused");
-    line::small(refusal.number());
+pub fn refused(rt: &impl Print, refusal: Refusal) {
+    line::word(rt, b": refused");
+    line::small(rt, refusal.number());
 }
 
-pub fn sync(s: Sync) {
+pub fn sync(rt: &impl Print, s: Sync) {
     let protection = s.protection;
-    line::word(b": sync");
-    line::small(s.domain);
-    line::small(s.counter);
-    line::number(s.seconds as u64);
-    line::byte(s.user0);
-    protected(protection);
+    line::word(rt, b": sync");
+    line::small(rt, s.domain);
+    line::small(rt, s.counter);
+    line::number(rt, s.seconds as u64);
+    line::byte(rt, s.user0);
+    protected(rt, protection);
 }
 
-pub fn fup(f: Fup) {
+pub fn fup(rt: &impl Print, f: Fup) {
     let protection = f.protection;
-    line::word(b": fup");
-    line::small(f.domain);
-    line::small(f.counter);
-    line::time(f.ovs as u64, f.nanoseconds);
-    gateway(f.sgw);
-    protected(protection);
+    line::word(rt, b": fup");
+    line::small(rt, f.domain);
+    line::small(rt, f.counter);
+    line::time(rt, f.ovs as u64, f.nanoseconds);
+    gateway(rt, f.sgw);
+    protected(rt, protection);
 }
 
-fn gateway(sgw: bool) {
+fn gateway(rt: &impl Print, sgw: bool) {
     if sgw {
-        line::word(b" sgw");
+        line::word(rt, b" sgw");
     }
 }
 
-fn protected(protection: Protection) {
+fn protected(rt: &impl Print, protection: Protection) {
     match protection {
-        Protection::Plain(user) => line::byte(user),
-        Protection::Secured => line::word(b" secured"),
+        Protection::Plain(user) => line::byte(rt, user),
+        Protection::Secured => line::word(rt, b" secured"),
     }
 }

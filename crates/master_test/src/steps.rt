@@ -11,77 +11,77 @@ use test_line as line;
 
 // ---- a fresh record, of domain 3
 
-pub fn fresh(period: u64, confirmation_time: u32) -> Domain {
-    fresh_as(Role::Master, period, confirmation_time)
+pub fn fresh(rt: &impl Print, period: u64, confirmation_time: u32) -> Domain {
+    fresh_as(rt, Role::Master, period, confirmation_time)
 }
 
-pub fn fresh_as(role: Role, period: u64, confirmation_time: u32) -> Domain {
-    line::word(b"fresh P");
-    line::number(period);
-    line::word(b" C");
-    line::number(confirmation_time as u64);
+pub fn fresh_as(rt: &impl Print, role: Role, period: u64, confirmation_time: u32) -> Domain {
+    line::word(rt, b"fresh P");
+    line::number(rt, period);
+    line::word(rt, b" C");
+    line::number(rt, confirmation_time as u64);
     let d = Domain::new(3, inputs::domain(role, period, confirmation_time));
-    record::shown(d);
+    record::shown(rt, d);
     d
 }
 
 // ---- the three steps
 
-pub fn set(d: Domain, t: u64, seconds: u32, nanoseconds: u32) -> Domain {
-    line::word(b"set");
-    line::time(seconds as u64, nanoseconds);
-    line::reading(t);
+pub fn set(rt: &impl Print, d: Domain, t: u64, seconds: u32, nanoseconds: u32) -> Domain {
+    line::word(rt, b"set");
+    line::time(rt, seconds as u64, nanoseconds);
+    line::reading(rt, t);
     let step = set_time(d, VirtualLocalTime(t), seconds, nanoseconds);
     let answer = step.answer;
     match answer {
-        SetAnswer::Done => line::word(b": done 0"),
-        SetAnswer::Refused(refusal) => record::refused(refusal),
+        SetAnswer::Done => line::word(rt, b": done 0"),
+        SetAnswer::Refused(refusal) => record::refused(rt, refusal),
     }
     let after = step.domain;
-    record::shown(after);
+    record::shown(rt, after);
     after
 }
 
-pub fn sent(d: Domain, t: u64) -> Domain {
-    line::word(b"send ");
-    line::reading(t);
+pub fn sent(rt: &impl Print, d: Domain, t: u64) -> Domain {
+    line::word(rt, b"send ");
+    line::reading(rt, t);
     if is_due(d, VirtualLocalTime(t)) {
-        line::word(b" due");
+        line::word(rt, b" due");
     }
     let step = send(d, VirtualLocalTime(t));
     let answer = step.answer;
     match answer {
-        SendAnswer::Sent(sync) => record::sync(sync),
-        SendAnswer::NotDue => line::word(b": not due"),
+        SendAnswer::Sent(sync) => record::sync(rt, sync),
+        SendAnswer::NotDue => line::word(rt, b": not due"),
     }
     let after = step.domain;
-    record::shown(after);
+    record::shown(rt, after);
     after
 }
 
-pub fn confirmed(d: Domain, t: u64, counter: u8) -> Domain {
-    line::word(b"confirm");
-    line::small(counter);
-    line::reading(t);
+pub fn confirmed(rt: &impl Print, d: Domain, t: u64, counter: u8) -> Domain {
+    line::word(rt, b"confirm");
+    line::small(rt, counter);
+    line::reading(rt, t);
     let step = confirm(d, VirtualLocalTime(t), counter, true);
     let answer = step.answer;
     match answer {
-        ConfirmAnswer::Followed(fup) => record::fup(fup),
-        ConfirmAnswer::Refused(refusal) => record::refused(refusal),
+        ConfirmAnswer::Followed(fup) => record::fup(rt, fup),
+        ConfirmAnswer::Refused(refusal) => record::refused(rt, refusal),
     }
     let after = step.domain;
-    record::shown(after);
+    record::shown(rt, after);
     after
 }
 
 // ---- a rule by itself
 
 // What the confirmation finds of a SYNC of counter 0 and second 5 that was sent at reading 0 with these nanoseconds.
-pub fn followed(confirmation_time: u32, nanoseconds: u32, t: u64) {
-    line::word(b"follow C");
-    line::number(confirmation_time as u64);
-    line::time(5, nanoseconds);
-    line::reading(t);
+pub fn followed(rt: &impl Print, confirmation_time: u32, nanoseconds: u32, t: u64) {
+    line::word(rt, b"follow C");
+    line::number(rt, confirmation_time as u64);
+    line::time(rt, 5, nanoseconds);
+    line::reading(rt, t);
     let sending = Sending::Open {
         counter: 0,
         seconds: 5,
@@ -94,10 +94,10 @@ pub fn followed(confirmation_time: u32, nanoseconds: u32, t: u64) {
             nanoseconds: rest,
             sent_at: _,
         } => {
-            line::word(b":");
-            line::time(ovs as u64, rest);
+            line::word(rt, b":");
+            line::time(rt, ovs as u64, rest);
         }
-        Follow::Refused(refusal) => record::refused(refusal),
+        Follow::Refused(refusal) => record::refused(rt, refusal),
     }
-    line::word(b"\n");
+    line::word(rt, b"\n");
 }

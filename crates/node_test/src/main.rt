@@ -15,25 +15,34 @@ use trial_step::line::put_trial_line;
 
 // The set; the read; SYNC 15. 12 at its confirmation; then OVS 3 a nanosecond before 4 s come over. SYNC 0, and its
 // FUP, for which 4 s come over: OVS has two bits, and is written as 0.
-fn main() {
+fn main(rt: HostRuntime) {
     let mut n = strange();
-    n = ask(n, 1, Request::Set(4, VirtualLocalTime(5000), 5, 0), 10);
-    n = ask(n, 2, Request::Read(4, VirtualLocalTime(5000)), 10);
-    n = ask(n, 3, Request::Cycle(VirtualLocalTime(5000)), 10);
+    n = ask(&rt, n, 1, Request::Set(4, VirtualLocalTime(5000), 5, 0), 10);
+    n = ask(&rt, n, 2, Request::Read(4, VirtualLocalTime(5000)), 10);
+    n = ask(&rt, n, 3, Request::Cycle(VirtualLocalTime(5000)), 10);
     n = ask(
+        &rt,
         n,
         4,
         Request::Confirm(4, VirtualLocalTime(4_000_005_000), 15),
         7,
     );
     n = ask(
+        &rt,
         n,
         5,
         Request::Confirm(4, VirtualLocalTime(4_000_004_999), 15),
         10,
     );
-    n = ask(n, 6, Request::Cycle(VirtualLocalTime(4_000_005_000)), 10);
     n = ask(
+        &rt,
+        n,
+        6,
+        Request::Cycle(VirtualLocalTime(4_000_005_000)),
+        10,
+    );
+    n = ask(
+        &rt,
         n,
         7,
         Request::Confirm(4, VirtualLocalTime(8_000_005_000), 0),
@@ -42,20 +51,20 @@ fn main() {
 }
 
 // A call with a lent buffer of 10 bytes, or 7.
-fn ask(n: Node, item: u64, request: Request, length: u8) -> Node {
+fn ask(rt: &impl Print, n: Node, item: u64, request: Request, length: u8) -> Node {
     if length == 7 {
-        ask_in(n, item, request, &mut [0xA5; 7])
+        ask_in(rt, n, item, request, &mut [0xA5; 7])
     } else {
-        ask_in(n, item, request, &mut [0xA5; 10])
+        ask_in(rt, n, item, request, &mut [0xA5; 10])
     }
 }
 
-fn ask_in(n: Node, item: u64, request: Request, lent: &mut [u8]) -> Node {
+fn ask_in(rt: &impl Print, n: Node, item: u64, request: Request, lent: &mut [u8]) -> Node {
     let mut out = [0u8; 128];
     let called = call(n, request, &[], lent);
     let answer = called.answer;
     let end = put_trial_line(&mut out, 0, item, answer, lent);
-    write_out(&out, end);
+    write_out(rt, &out, end);
     called.node
 }
 

@@ -4,78 +4,78 @@ use settings::{DomainSettings, Role, Security, UserBytes};
 use test_line::{byte, hex, number, small, word};
 
 // The role, and the fields that have a range.
-pub fn numbers(s: DomainSettings) {
+pub fn numbers(rt: &impl Print, s: DomainSettings) {
     let role = s.role;
-    named(role);
-    word(b" J");
-    small(s.jump_width);
-    word(b" H");
-    small(s.hysteresis);
-    word(b" F");
-    number(s.follow_up_time);
-    word(b" L");
-    number(s.loss_time);
-    word(b" future");
-    number(s.future_threshold);
-    word(b" past");
-    number(s.past_threshold);
-    word(b" count");
-    small(s.clear_count);
-    word(b" P");
-    number(s.period);
-    word(b" C");
-    number(s.confirmation_time as u64);
+    named(rt, role);
+    word(rt, b" J");
+    small(rt, s.jump_width);
+    word(rt, b" H");
+    small(rt, s.hysteresis);
+    word(rt, b" F");
+    number(rt, s.follow_up_time);
+    word(rt, b" L");
+    number(rt, s.loss_time);
+    word(rt, b" future");
+    number(rt, s.future_threshold);
+    word(rt, b" past");
+    number(rt, s.past_threshold);
+    word(rt, b" count");
+    small(rt, s.clear_count);
+    word(rt, b" P");
+    number(rt, s.period);
+    word(rt, b" C");
+    number(rt, s.confirmation_time as u64);
 }
 
 // The other fields.
-pub fn others(s: DomainSettings) {
+pub fn others(rt: &impl Print, s: DomainSettings) {
     let ids = s.ids;
     let sync = ids.sync;
     let fup = ids.fup;
     let mode = s.mode;
     let security = s.security;
     let user = s.user;
-    moded(mode);
-    kind(security);
-    user_bytes(user);
-    word(b" sync");
-    list(sync);
-    word(b" fup");
-    list(fup);
+    moded(rt, mode);
+    kind(rt, security);
+    user_bytes(rt, user);
+    word(rt, b" sync");
+    list(rt, sync);
+    word(rt, b" fup");
+    list(rt, fup);
 }
 
-fn named(role: Role) {
+fn named(rt: &impl Print, role: Role) {
     match role {
-        Role::Absent => word(b" absent"),
-        Role::Slave => word(b" slave"),
-        Role::Master => word(b" master"),
+        Role::Absent => word(rt, b" absent"),
+        Role::Slave => word(rt, b" slave"),
+        Role::Master => word(rt, b" master"),
     }
 }
 
-fn moded(mode: CheckMode) {
+fn moded(rt: &impl Print, mode: CheckMode) {
     match mode {
-        CheckMode::Validated => word(b" validated"),
-        CheckMode::NotValidated => word(b" not-validated"),
-        CheckMode::Ignored => word(b" ignored"),
-        CheckMode::Optional => word(b" optional"),
+        CheckMode::Validated => word(rt, b" validated"),
+        CheckMode::NotValidated => word(rt, b" not-validated"),
+        CheckMode::Ignored => word(rt, b" ignored"),
+        CheckMode::Optional => word(rt, b" optional"),
     }
 }
 
-fn kind(security: Security) {
+fn kind(rt: &impl Print, security: Security) {
     match security {
-        Security::Plain => word(b" plain"),
-        Security::Secured => word(b" secured"),
+        Security::Plain => word(rt, b" plain"),
+        Security::Secured => word(rt, b" secured"),
     }
 }
 
-fn user_bytes(user: UserBytes) {
-    word(b" user");
-    byte(user.0);
-    byte(user.1);
-    byte(user.2);
+fn user_bytes(rt: &impl Print, user: UserBytes) {
+    word(rt, b" user");
+    byte(rt, user.0);
+    byte(rt, user.1);
+    byte(rt, user.2);
 }
 
-fn list(ids: [u8; 16]) {
-    word(b" ");
-    hex(&ids);
+fn list(rt: &impl Print, ids: [u8; 16]) {
+    word(rt, b" ");
+    hex(rt, &ids);
 }

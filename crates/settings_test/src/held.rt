@@ -6,16 +6,16 @@ use frame_check::CheckMode;
 use settings::{DomainSettings, Role, Security, UserBytes};
 use test_line as line;
 
-pub fn roles() {
-    held(Role::Slave, CheckMode::Validated, Security::Secured);
-    held(Role::Slave, CheckMode::NotValidated, Security::Secured);
-    held(Role::Slave, CheckMode::Ignored, Security::Secured);
-    held(Role::Slave, CheckMode::Optional, Security::Secured);
-    held(Role::Master, CheckMode::Optional, Security::Plain);
-    held(Role::Master, CheckMode::Optional, Security::Secured);
-    held(Role::Absent, CheckMode::Optional, Security::Secured);
-    line::word(b"absent");
-    whole(DomainSettings::absent());
+pub fn roles(rt: &impl Print) {
+    held(rt, Role::Slave, CheckMode::Validated, Security::Secured);
+    held(rt, Role::Slave, CheckMode::NotValidated, Security::Secured);
+    held(rt, Role::Slave, CheckMode::Ignored, Security::Secured);
+    held(rt, Role::Slave, CheckMode::Optional, Security::Secured);
+    held(rt, Role::Master, CheckMode::Optional, Security::Plain);
+    held(rt, Role::Master, CheckMode::Optional, Security::Secured);
+    held(rt, Role::Absent, CheckMode::Optional, Security::Secured);
+    line::word(rt, b"absent");
+    whole(rt, DomainSettings::absent());
 }
 
 // No byte stands twice, so a wrong list or place shows.
@@ -42,16 +42,16 @@ fn given(role: Role, mode: CheckMode, security: Security) -> DomainSettings {
 
 // ---- the lines
 
-fn held(role: Role, mode: CheckMode, security: Security) {
+fn held(rt: &impl Print, role: Role, mode: CheckMode, security: Security) {
     let s = given(role, mode, security);
-    line::word(b"given");
-    whole(s);
-    line::word(b"held");
-    whole(s.held());
+    line::word(rt, b"given");
+    whole(rt, s);
+    line::word(rt, b"held");
+    whole(rt, s.held());
 }
 
-fn whole(s: DomainSettings) {
-    fields::numbers(s);
-    fields::others(s);
-    line::word(b"\n");
+fn whole(rt: &impl Print, s: DomainSettings) {
+    fields::numbers(rt, s);
+    fields::others(rt, s);
+    line::word(rt, b"\n");
 }

@@ -7,7 +7,7 @@ mod fields;
 mod held;
 mod limits;
 
-fn main() {
-    limits::limits();
-    held::roles();
+fn main(rt: HostRuntime) {
+    limits::limits(&rt);
+    held::roles(&rt);
 }

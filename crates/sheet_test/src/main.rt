@@ -13,90 +13,90 @@ use text::pieces::write_out;
 
 const HALF: u64 = 9_223_372_036_854_775_808;
 
-fn main() {
-    wides();
-    sums();
-    ends();
-    lines();
+fn main(rt: HostRuntime) {
+    wides(&rt);
+    sums(&rt);
+    ends(&rt);
+    lines(&rt);
 }
 
 // A number of 128 bits, and so much more.
-fn wides() {
-    wide(0, 0, 0);
-    wide(0, 7, 5);
-    wide(0, u64::MAX, 1);
-    wide(0, u64::MAX, u64::MAX);
-    wide(3, 1, u64::MAX);
-    wide(u64::MAX - 1, u64::MAX, u64::MAX);
-    wide(u64::MAX, u64::MAX - 1, 1);
-    wide(u64::MAX, u64::MAX, 1);
-    wide(u64::MAX, 5, u64::MAX);
+fn wides(rt: &impl Print) {
+    wide(rt, 0, 0, 0);
+    wide(rt, 0, 7, 5);
+    wide(rt, 0, u64::MAX, 1);
+    wide(rt, 0, u64::MAX, u64::MAX);
+    wide(rt, 3, 1, u64::MAX);
+    wide(rt, u64::MAX - 1, u64::MAX, u64::MAX);
+    wide(rt, u64::MAX, u64::MAX - 1, 1);
+    wide(rt, u64::MAX, u64::MAX, 1);
+    wide(rt, u64::MAX, 5, u64::MAX);
 }
 
-fn wide(high: u64, low: u64, more: u64) {
+fn wide(rt: &impl Print, high: u64, low: u64, more: u64) {
     let after = Wide { high, low }.plus(more);
-    word(b"wide");
-    number(high);
-    number(low);
-    number(more);
-    word(b":");
-    number(after.high);
-    number(after.low);
-    word(b"\n");
+    word(rt, b"wide");
+    number(rt, high);
+    number(rt, low);
+    number(rt, more);
+    word(rt, b":");
+    number(rt, after.high);
+    number(rt, after.low);
+    word(rt, b"\n");
 }
 
 // Three D.
-fn sums() {
-    sum(0, 0, 0);
-    sum(5, -5, 0);
-    sum(-5, 7, 0);
-    sum(i64::MAX, 0, 0);
-    sum(i64::MAX, 1, 0);
-    sum(i64::MAX, 1, -1);
-    sum(i64::MAX, i64::MAX, 2);
-    sum(i64::MAX, i64::MAX, i64::MIN);
-    sum(i64::MIN, 0, 0);
-    sum(i64::MIN, -1, 0);
-    sum(i64::MIN, -1, 1);
-    sum(i64::MIN, i64::MIN, i64::MAX);
-    sum(i64::MIN, i64::MIN, 0);
-    sum(i64::MIN, i64::MAX, 1);
+fn sums(rt: &impl Print) {
+    sum(rt, 0, 0, 0);
+    sum(rt, 5, -5, 0);
+    sum(rt, -5, 7, 0);
+    sum(rt, i64::MAX, 0, 0);
+    sum(rt, i64::MAX, 1, 0);
+    sum(rt, i64::MAX, 1, -1);
+    sum(rt, i64::MAX, i64::MAX, 2);
+    sum(rt, i64::MAX, i64::MAX, i64::MIN);
+    sum(rt, i64::MIN, 0, 0);
+    sum(rt, i64::MIN, -1, 0);
+    sum(rt, i64::MIN, -1, 1);
+    sum(rt, i64::MIN, i64::MIN, i64::MAX);
+    sum(rt, i64::MIN, i64::MIN, 0);
+    sum(rt, i64::MIN, i64::MAX, 1);
 }
 
-fn sum(a: i64, b: i64, c: i64) {
+fn sum(rt: &impl Print, a: i64, b: i64, c: i64) {
     let none = Sum::new();
     let one = none.with(a);
     let two = one.with(b);
     let three = two.with(c);
-    word(b"sum");
-    signed(a);
-    signed(b);
-    signed(c);
-    say(three.told());
+    word(rt, b"sum");
+    signed(rt, a);
+    signed(rt, b);
+    signed(rt, c);
+    say(rt, three.told());
 }
 
 // What is ahead, and what is behind, beyond 64 bits.
-fn ends() {
-    end(0, HALF - 1, 0, 0);
-    end(0, HALF, 0, 0);
-    end(0, 0, 0, HALF);
-    end(0, 0, 0, HALF + 1);
-    end(1, 0, 0, HALF + 1);
-    end(1, 0, 0, HALF);
-    end(0, HALF, 1, 0);
-    end(0, HALF - 1, 1, 0);
-    end(5, 0, 5, 0);
-    end(5, 1, 5, 0);
-    end(6, 0, 5, u64::MAX);
-    end(5, u64::MAX, 6, 0);
-    end(6, 1, 5, 1);
-    end(5, 1, 6, 1);
-    end(u64::MAX, u64::MAX, u64::MAX, u64::MAX);
-    end(u64::MAX, u64::MAX, 0, 0);
-    end(0, 0, u64::MAX, u64::MAX);
+fn ends(rt: &impl Print) {
+    end(rt, 0, HALF - 1, 0, 0);
+    end(rt, 0, HALF, 0, 0);
+    end(rt, 0, 0, 0, HALF);
+    end(rt, 0, 0, 0, HALF + 1);
+    end(rt, 1, 0, 0, HALF + 1);
+    end(rt, 1, 0, 0, HALF);
+    end(rt, 0, HALF, 1, 0);
+    end(rt, 0, HALF - 1, 1, 0);
+    end(rt, 5, 0, 5, 0);
+    end(rt, 5, 1, 5, 0);
+    end(rt, 6, 0, 5, u64::MAX);
+    end(rt, 5, u64::MAX, 6, 0);
+    end(rt, 6, 1, 5, 1);
+    end(rt, 5, 1, 6, 1);
+    end(rt, u64::MAX, u64::MAX, u64::MAX, u64::MAX);
+    end(rt, u64::MAX, u64::MAX, 0, 0);
+    end(rt, 0, 0, u64::MAX, u64::MAX);
 }
 
-fn end(ahead_high: u64, ahead_low: u64, behind_high: u64, behind_low: u64) {
+fn end(rt: &impl Print, ahead_high: u64, ahead_low: u64, behind_high: u64, behind_low: u64) {
     let whole = Sum {
         ahead: Wide {
             high: ahead_high,
@@ -107,57 +107,63 @@ fn end(ahead_high: u64, ahead_low: u64, behind_high: u64, behind_low: u64) {
             low: behind_low,
         },
     };
-    word(b"end");
-    number(ahead_high);
-    number(ahead_low);
-    word(b" less");
-    number(behind_high);
-    number(behind_low);
-    say(whole.told());
+    word(rt, b"end");
+    number(rt, ahead_high);
+    number(rt, ahead_low);
+    word(rt, b" less");
+    number(rt, behind_high);
+    number(rt, behind_low);
+    say(rt, whole.told());
 }
 
-fn say(told: Told) {
-    word(b":");
+fn say(rt: &impl Print, told: Told) {
+    word(rt, b":");
     match told {
-        Told::Plus(m) => number(m),
+        Told::Plus(m) => number(rt, m),
         Told::Minus(m) => {
-            word(b" minus");
-            number(m);
+            word(rt, b" minus");
+            number(rt, m);
         }
-        Told::Over => word(b" over"),
+        Told::Over => word(rt, b" over"),
     }
-    word(b"\n");
+    word(rt, b"\n");
 }
 
-fn lines() {
+fn lines(rt: &impl Print) {
     let none = Tally::new();
-    line(none);
+    line(rt, none);
     let first = none
         .counted(FrameAnswer::SyncTaken)
         .counted(FrameAnswer::FirstTaken);
-    line(first);
+    line(rt, first);
     // no column counts 15
-    line(first.counted(FrameAnswer::Refused(Refusal::RowIncomplete)));
-    line(first.counted(FrameAnswer::Refused(Refusal::Check)));
-    line(first.counted(FrameAnswer::Refused(Refusal::Nanoseconds)));
+    line(
+        rt,
+        first.counted(FrameAnswer::Refused(Refusal::RowIncomplete)),
+    );
+    line(rt, first.counted(FrameAnswer::Refused(Refusal::Check)));
+    line(
+        rt,
+        first.counted(FrameAnswer::Refused(Refusal::Nanoseconds)),
+    );
     let ahead = first.counted(FrameAnswer::Updated(i64::MAX));
-    line(ahead);
-    line(ahead.counted(FrameAnswer::Updated(1)));
-    line(ahead.counted(FrameAnswer::Updated(i64::MIN)));
+    line(rt, ahead);
+    line(rt, ahead.counted(FrameAnswer::Updated(1)));
+    line(rt, ahead.counted(FrameAnswer::Updated(i64::MIN)));
     let behind = first.counted(FrameAnswer::Updated(i64::MIN));
-    line(behind);
-    line(behind.counted(FrameAnswer::Updated(-1)));
+    line(rt, behind);
+    line(rt, behind.counted(FrameAnswer::Updated(-1)));
     let full = Tally {
         counts: [u64::MAX; Tally::COLUMNS],
         spread: Spread::None,
         sum: Sum::new(),
     };
-    line(full);
-    line(full.counted(FrameAnswer::SyncTaken));
+    line(rt, full);
+    line(rt, full.counted(FrameAnswer::SyncTaken));
 }
 
-fn line(tally: Tally) {
+fn line(rt: &impl Print, tally: Tally) {
     let mut text = [0u8; 256];
     let end = put_line(&mut text, 0, 15, tally);
-    write_out(&text, end);
+    write_out(rt, &text, end);
 }

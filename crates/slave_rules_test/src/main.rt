@@ -6,11 +6,11 @@ mod counters;
 mod leaps;
 mod rows;
 
-fn main() {
-    counters::widths();
-    counters::loss();
-    rows::rows();
-    leaps::limits();
-    leaps::runs();
-    leaps::anew();
+fn main(rt: HostRuntime) {
+    counters::widths(&rt);
+    counters::loss(&rt);
+    rows::rows(&rt);
+    leaps::limits(&rt);
+    leaps::runs(&rt);
+    leaps::anew(&rt);
 }

@@ -4,61 +4,61 @@ use slave_counter::{CounterVerdict, RowCheck, check_row};
 use test_line as line;
 
 // H 0 to 2, the greatest, and one that no settings have; rows up to H, and beyond it, which no record holds.
-pub fn rows() {
-    checks(0, 0);
-    checks(0, 1);
-    checks(0, 255);
-    checks(1, 0);
-    checks(1, 1);
-    checks(1, 2);
-    checks(1, 255);
-    checks(2, 0);
-    checks(2, 1);
-    checks(2, 2);
-    checks(2, 3);
-    checks(2, 255);
-    checks(15, 0);
-    checks(15, 1);
-    checks(15, 13);
-    checks(15, 14);
-    checks(15, 15);
-    checks(15, 255);
-    checks(255, 0);
-    checks(255, 1);
-    checks(255, 253);
-    checks(255, 254);
-    checks(255, 255);
+pub fn rows(rt: &impl Print) {
+    checks(rt, 0, 0);
+    checks(rt, 0, 1);
+    checks(rt, 0, 255);
+    checks(rt, 1, 0);
+    checks(rt, 1, 1);
+    checks(rt, 1, 2);
+    checks(rt, 1, 255);
+    checks(rt, 2, 0);
+    checks(rt, 2, 1);
+    checks(rt, 2, 2);
+    checks(rt, 2, 3);
+    checks(rt, 2, 255);
+    checks(rt, 15, 0);
+    checks(rt, 15, 1);
+    checks(rt, 15, 13);
+    checks(rt, 15, 14);
+    checks(rt, 15, 15);
+    checks(rt, 15, 255);
+    checks(rt, 255, 0);
+    checks(rt, 255, 1);
+    checks(rt, 255, 253);
+    checks(rt, 255, 254);
+    checks(rt, 255, 255);
 }
 
 // ---- the lines
 
-fn checks(h: u8, row: u8) {
-    line::word(b"check H");
-    line::small(h);
-    line::word(b" row");
-    line::small(row);
-    line::word(b": free");
-    checked(check_row(h, row, CounterVerdict::Free));
-    line::word(b", good");
-    checked(check_row(h, row, CounterVerdict::Good));
-    line::word(b", not-good");
-    checked(check_row(h, row, CounterVerdict::NotGood));
-    line::word(b"\n");
+fn checks(rt: &impl Print, h: u8, row: u8) {
+    line::word(rt, b"check H");
+    line::small(rt, h);
+    line::word(rt, b" row");
+    line::small(rt, row);
+    line::word(rt, b": free");
+    checked(rt, check_row(h, row, CounterVerdict::Free));
+    line::word(rt, b", good");
+    checked(rt, check_row(h, row, CounterVerdict::Good));
+    line::word(rt, b", not-good");
+    checked(rt, check_row(h, row, CounterVerdict::NotGood));
+    line::word(rt, b"\n");
 }
 
-fn checked(check: RowCheck) {
+fn checked(rt: &impl Print, check: RowCheck) {
     match check {
         RowCheck::NotGood(row) => {
-            line::word(b" not-good");
-            line::small(row);
+            line::word(rt, b" not-good");
+            line::small(rt, row);
         }
         RowCheck::Joins(row) => {
-            line::word(b" joins");
-            line::small(row);
+            line::word(rt, b" joins");
+            line::small(rt, row);
         }
         RowCheck::Complete(row) => {
-            line::word(b" complete");
-            line::small(row);
+            line::word(rt, b" complete");
+            line::small(rt, row);
         }
     }
 }

@@ -8,12 +8,12 @@ mod inputs;
 mod record;
 mod steps;
 
-fn main() {
-    cases::updates();
-    cases::earlier();
-    cases::rows();
-    cases::far_leaps();
-    cases::first_clears();
-    cases::timeout();
-    cases::no_frames();
+fn main(rt: HostRuntime) {
+    cases::updates(&rt);
+    cases::earlier(&rt);
+    cases::rows(&rt);
+    cases::far_leaps(&rt);
+    cases::first_clears(&rt);
+    cases::timeout(&rt);
+    cases::no_frames(&rt);
 }

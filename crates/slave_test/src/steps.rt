@@ -12,21 +12,21 @@ use test_line as line;
 
 // ---- a fresh record, of domain 1
 
-pub fn fresh(j: u8, h: u8, f: u64, l: u64, future: u64, past: u64) -> Domain {
+pub fn fresh(rt: &impl Print, j: u8, h: u8, f: u64, l: u64, future: u64, past: u64) -> Domain {
     let d = Domain::new(1, inputs::slave(j, h, f, l, future, past));
-    line::word(b"fresh J");
-    line::small(j);
-    line::word(b" H");
-    line::small(h);
-    line::word(b" F");
-    line::number(f);
-    line::word(b" L");
-    line::number(l);
-    line::word(b" future");
-    line::number(future);
-    line::word(b" past");
-    line::number(past);
-    record::shown(d);
+    line::word(rt, b"fresh J");
+    line::small(rt, j);
+    line::word(rt, b" H");
+    line::small(rt, h);
+    line::word(rt, b" F");
+    line::number(rt, f);
+    line::word(rt, b" L");
+    line::number(rt, l);
+    line::word(rt, b" future");
+    line::number(rt, future);
+    line::word(rt, b" past");
+    line::number(rt, past);
+    record::shown(rt, d);
     d
 }
 
@@ -56,12 +56,12 @@ pub fn leaping(d: Domain, leap: Leap) -> Domain {
 // ---- SYNC and FUP, by their values
 
 // A plain one, by its counter and seconds.
-pub fn sync(d: Domain, t: u64, counter: u8, seconds: u32) -> Domain {
-    line::word(b"sync");
-    line::small(counter);
-    line::reading(t);
-    line::number(seconds as u64);
-    line::word(b" aa bb");
+pub fn sync(rt: &impl Print, d: Domain, t: u64, counter: u8, seconds: u32) -> Domain {
+    line::word(rt, b"sync");
+    line::small(rt, counter);
+    line::reading(rt, t);
+    line::number(rt, seconds as u64);
+    line::word(rt, b" aa bb");
     let s = Sync {
         domain: 1,
         counter,
@@ -69,16 +69,16 @@ pub fn sync(d: Domain, t: u64, counter: u8, seconds: u32) -> Domain {
         seconds,
         protection: Protection::Plain(0xBB),
     };
-    ended(take_sync(d, VirtualLocalTime(t), s))
+    ended(rt, take_sync(d, VirtualLocalTime(t), s))
 }
 
 // A plain one with no SGW, by its counter, OVS and nanoseconds.
-pub fn fup(d: Domain, t: u64, counter: u8, ovs: u8, nanoseconds: u32) -> Domain {
-    line::word(b"fup");
-    line::small(counter);
-    line::reading(t);
-    line::time(ovs as u64, nanoseconds);
-    line::word(b" 0 cc");
+pub fn fup(rt: &impl Print, d: Domain, t: u64, counter: u8, ovs: u8, nanoseconds: u32) -> Domain {
+    line::word(rt, b"fup");
+    line::small(rt, counter);
+    line::reading(rt, t);
+    line::time(rt, ovs as u64, nanoseconds);
+    line::word(rt, b" 0 cc");
     let f = Fup {
         domain: 1,
         counter,
@@ -87,15 +87,15 @@ pub fn fup(d: Domain, t: u64, counter: u8, ovs: u8, nanoseconds: u32) -> Domain 
         nanoseconds,
         protection: Protection::Plain(0xCC),
     };
-    ended(take_fup(d, VirtualLocalTime(t), f))
+    ended(rt, take_fup(d, VirtualLocalTime(t), f))
 }
 
 // ---- bytes that are no frame
 
 // With the values of a good SYNC.
-pub fn no_frame(d: Domain, bytes: &[u8]) -> Domain {
-    line::word(b"no-frame");
-    line::number(bytes.len() as u64);
+pub fn no_frame(rt: &impl Print, d: Domain, bytes: &[u8]) -> Domain {
+    line::word(rt, b"no-frame");
+    line::number(rt, bytes.len() as u64);
     let values = Frame::Sync(Sync {
         domain: 1,
         counter: 6,
@@ -103,25 +103,25 @@ pub fn no_frame(d: Domain, bytes: &[u8]) -> Domain {
         seconds: 3600,
         protection: Protection::Plain(0xBB),
     });
-    ended(take_frame(d, VirtualLocalTime(0), bytes, values))
+    ended(rt, take_frame(d, VirtualLocalTime(0), bytes, values))
 }
 
 // ---- the status
 
-pub fn status(d: Domain, t: u64) {
-    line::word(b"status");
-    line::reading(t);
-    line::word(b":");
-    line::byte(status_at(d, VirtualLocalTime(t)));
-    line::word(b"\n");
+pub fn status(rt: &impl Print, d: Domain, t: u64) {
+    line::word(rt, b"status");
+    line::reading(rt, t);
+    line::word(rt, b":");
+    line::byte(rt, status_at(d, VirtualLocalTime(t)));
+    line::word(rt, b"\n");
 }
 
 // ---- the end of a line
 
-fn ended(step: FrameStep) -> Domain {
+fn ended(rt: &impl Print, step: FrameStep) -> Domain {
     let answer = step.answer;
     let d = step.domain;
-    record::answered(answer);
-    record::shown(d);
+    record::answered(rt, answer);
+    record::shown(rt, d);
     d
 }
