@@ -1,8 +1,8 @@
 -- A call on a record that it is not for. No contract cites this file.
 --   bad-reading      at a bad reading a frame is refused by 1 on every record
---   wrong-length     of another length than 8 by 2
---   no-such-type     of no type of the four by 3
---   another-record   one of another domain than the record's by 4
+--   wrong_length     of another length than 8 by 2
+--   no_such_type     of no type of the four by 3
+--   another_record   one of another domain than the record's by 4
 --                    and each leaves the record and the kept reading as they were
 --   foreign-done     any call that is not for a record: what it answers does not depend on the record, which stays
 -- Assumes nothing.
@@ -72,16 +72,16 @@ module _ (d : Domain) (kept t : VirtualLocalTime) (bytes : List ℕ) where
   reading_is_bad e = rw e
 
   module _ (good : is_good_reading kept t ≡ true) where
-    pub wrong-length : (length bytes ≡ 8 → ⊥) → frame_call_of d kept t bytes ≡ refused_on d kept Length
-    wrong-length n = rw (good, ne_eqb (length bytes) 8 n)
+    pub wrong_length : (length bytes ≡ 8 → ⊥) → frame_call_of d kept t bytes ≡ refused_on d kept Length
+    wrong_length n = rw (good, ne_eqb (length bytes) 8 n)
 
-    pub no-such-type : read_of bytes ≡ NoSuchType → frame_call_of d kept t bytes ≡ refused_on d kept FrameType
-    no-such-type e = rw (good, e)
+    pub no_such_type : read_of bytes ≡ NoSuchType → frame_call_of d kept t bytes ≡ refused_on d kept FrameType
+    no_such_type e = rw (good, e)
 
-    pub another-record :
+    pub another_record :
         (values : Frame) → read_of bytes ≡ Values values → (domain_in values ≡ d.number → ⊥) →
         frame_call_of d kept t bytes ≡ refused_on d kept another
-    another-record values e n = rw (good, e) (read_refused (Values values) n)
+    another_record values e n = rw (good, e) (read_refused (Values values) n)
 
 -- ---- a call of another domain
 abbrev by_domain : Bool → Refusal

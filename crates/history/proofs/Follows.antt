@@ -273,10 +273,10 @@ module _ (k : Link) (moment : ℕ) where
             pair = λ c' sent' in_row. rw (one_counter m k.domain c' c q.of sent' sent) refl;
           }
 
-      checked-follows :
+      checked_follows :
           (v : CounterVerdict) (check : RowCheck) → verdict_for d q.at values ≡ v →
           Checked d.settings.hysteresis (row_of d.last) v check → Done check
-      checked-follows v check e refuses =
+      checked_follows v check e refuses =
           let r = refused d.last s q.of _ _ c q.at j last after e in
           record {
             last = r.0 _ (newest c q.of);
@@ -285,7 +285,7 @@ module _ (k : Link) (moment : ℕ) where
                 (λ h le in_row. absurd (never d.last h (counted NotGood e h le in_row)));
             pair = λ c' sent' in_row. absurd (never d.last full (counted NotGood e full (omega arith) in_row));
           }
-      checked-follows v check e (begins lt) =
+      checked_follows v check e (begins lt) =
           record {
             last = inr refl;
             row =
@@ -295,8 +295,8 @@ module _ (k : Link) (moment : ℕ) where
                 λ c' sent' in_row.
                 absurd (omega (arith, lt, most, first d.last full (counted Free e full (omega arith) in_row)));
           }
-      checked-follows v check e (alone le) = opens
-      checked-follows v check e (joins lt) =
+      checked_follows v check e (alone le) = opens
+      checked_follows v check e (joins lt) =
           record {
             last = inr refl;
             row =
@@ -306,10 +306,10 @@ module _ (k : Link) (moment : ℕ) where
                 λ c' sent' in_row.
                 absurd (omega (arith, lt, most, next d.last full (counted Good e full (omega arith) in_row)));
           }
-      checked-follows v check e (completes le) = opens
+      checked_follows v check e (completes le) = opens
 
-      sync-follows : Follows k moment (sync_of d q.at values).domain (newest c q.of) (q ∷ older)
-      sync-follows = checked-follows _ _ refl (checked _ _ (verdict_for d q.at values))
+      sync_follows : Follows k moment (sync_of d q.at values).domain (newest c q.of) (q ∷ older)
+      sync_follows = checked_follows _ _ refl (checked _ _ (verdict_for d q.at values))
 
   fup_as_lem :
       (j : Joined) (d : Domain) (f : Fup) → (fup_as j d f).domain.last ≡ d.last
@@ -386,13 +386,13 @@ module _ (k : Link) (l : Linked k) where
         (s : Newest) → Row (master_settings k) k.domain s (sendings copies ++ rest) →
         Follows k moment (slave_record k h) s copies
 
-    passes-follows :
+    passes_follows :
         (x : Event) (h : History) → Passes k moment x → Fine k (x ∷ h) → (copies : List Copy) →
         heard_since k moment (heard_in k h) ≡ arrivals copies → (s : Newest) →
         Follows k moment (slave_record k h) s copies → Follows k moment (slave_record k (x ∷ h)) s copies
-    passes-follows x h (quiet y q) g copies e s before =
+    passes_follows x h (quiet y q) g copies e s before =
         subst (λ (d : Domain). Follows k moment d s copies) (sym (quiet_record x h g q)) before
-    passes-follows x h (early t bytes heard lt) g copies e s before =
+    passes_follows x h (early t bytes heard lt) g copies e s before =
         let v = heard_as k bytes heard in
         let empty = none_since k moment h copies g.fall.0 (omega (arith, g.fall.1, lt)) e in
         subst (λ (d : Domain). Follows k moment d s copies)
@@ -400,21 +400,21 @@ module _ (k : Link) (l : Linked k) where
         (subst (Follows k moment (kind_of (slave_record k h) t v.values).domain s) (sym empty)
         (early_follows k moment (slave_record k h) s t v.values lt before.last))
 
-    adds-follows :
+    adds_follows :
         (x : Event) (h : History) (copies : List Copy) → Adds k moment h x copies → Fine k (x ∷ h) →
         (s : Newest) → Row (master_settings k) k.domain s (sendings copies ++ rest) → Claim h →
         Follows k moment (slave_record k (x ∷ h)) s copies
-    adds-follows x h copies (passes y all p e) g s r before =
-        passes-follows x h p g copies e s (before copies e s r)
-    adds-follows x h copies (arrives q older heard late e) g s (then_sync s' l' r c y a sent) before =
+    adds_follows x h copies (passes y all p e) g s r before =
+        passes_follows x h p g copies e s (before copies e s r)
+    adds_follows x h copies (arrives q older heard late e) g s (then_sync s' l' r c y a sent) before =
         let v = sync_values (master_settings k) k.domain c q.of.time.0 in
         let reads = sync_read (master_settings k) k.domain c q.of l.domain sent in
         let known = before older e s' r in
         subst (λ (d : Domain). Follows k moment d (newest c q.of) (q ∷ older))
         (sym (handed h q.at q.of.bytes (sync v) g heard reads).0)
-        (sync-follows k moment (slave_record k h) s' c q older (slave_settings_lem k l h g.calls.0)
+        (sync_follows k moment (slave_record k h) s' c q older (slave_settings_lem k l h g.calls.0)
         (jump_at h g.calls.0) known.last known.row a sent late)
-    adds-follows x h copies (arrives q older heard late e) g s (then_fup c y l' older' r head sent f fs) before =
+    adds_follows x h copies (arrives q older heard late e) g s (then_fup c y l' older' r head sent f fs) before =
         let reads = fup_read (master_settings k) k.domain c y q.of l.domain sent.small fs in
         let known = before older e (newest c y) r in
         subst (λ (d : Domain). Follows k moment d (newest c y) (q ∷ older))
@@ -429,4 +429,4 @@ module _ (k : Link) (l : Linked k) where
         subst (Follows k moment (slave_record k []) s) (sym (nothing copies e))
         (record { last = unknown; row = tt; pair = tt })
     follows (x ∷ h) g copies e s r =
-        adds-follows x h copies (adds k moment x h copies e) g s r (follows h (fine_before k x h g))
+        adds_follows x h copies (adds k moment x h copies e) g s r (follows h (fine_before k x h g))

@@ -28,7 +28,7 @@ use Rattle.slave_pair.specs.declared.joining.Joined.{Joined}
 use Rattle.slave_pair.proofs.Laws.{Joins, by_joined}
 use Rattle.slave_update.specs.Update.{new_base}
 use Rattle.slave_counter.specs.declared.RowCheck.{RowCheck}
-use Rattle.slave_counter.specs.declared.RowCheck.TheVariants.{NotGood, Joins as joins-row, Complete}
+use Rattle.slave_counter.specs.declared.RowCheck.TheVariants.{NotGood, Joins as joins_row, Complete}
 use Rattle.slave_sync.specs.Sync.{check_for, sync_as}
 use Rattle.slave_fup.specs.Fup.{fup_as}
 use Rattle.slave_frame.specs.Step.{kind_of}
@@ -193,7 +193,7 @@ module _ (k : Link) (exceed : Exceed k) (h : History) (row : RowOf (master_setti
       (c : ℕ) → SyncSent (master_settings k) k.domain c copy.of → (check : RowCheck) →
       Kept k (x ∷ h) (sync_as check d t (sync_values (master_settings k) k.domain c copy.of.time.0)).domain
   sync_as_lem c sy (NotGood row) = record { pair = still.pair; base = still.base }
-  sync_as_lem c sy (joins-row row) = record { pair = still.pair; base = still.base }
+  sync_as_lem c sy (joins_row row) = record { pair = still.pair; base = still.base }
   sync_as_lem c sy (Complete row) =
       record {
         pair =
@@ -268,8 +268,8 @@ module _ (k : Link) (exceed : Exceed k) (h : History) (row : RowOf (master_setti
               };
         }
 
-    fup-kept : Kept k (x ∷ h) (kind_of d t (fup f)).domain
-    fup-kept =
+    fup_kept : Kept k (x ∷ h) (kind_of d t (fup f)).domain
+    fup_kept =
         by_joined (λ (j : Joined). Kept k (x ∷ h) (fup_as j d f).domain) d.settings.follow_up_time
         d.pairing t f still still still
         (λ p told. record { pair = tt; base = joined p (subst (PairOk k h) told.held g.pair) told })
@@ -291,7 +291,7 @@ module _ (k : Link) (linked : Linked k) (exceed : Exceed k) where
       (λ (its : PairIn m i (sent_in k h) copy.of).
       read_as (fup (values_of its))
       (fup_read m i its.pair.counter its.y copy.of linked.domain its.pair.sync.small its.pair.fup)
-      (fup-kept k exceed h row t bytes le copy sent d held g its))
+      (fup_kept k exceed h row t bytes le copy sent d held g its))
       (each_known m i row.latest (sent_in k h) row.row copy.of copy.copied.sent)
     where
       m : DomainSettings

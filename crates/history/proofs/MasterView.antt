@@ -75,7 +75,7 @@ use Rattle.node_call.specs.Calls.{
 use Rattle.node_laws.specs.Good.{Good}
 use Rattle.node_laws.proofs.Rounds.{AllGood, all_later, stored_good, turn_good}
 use Rattle.node_laws.proofs.Cycles.{addressed, given_here}
-use Rattle.node_laws.proofs.Bounds.{sent_within_lem, ovs-here}
+use Rattle.node_laws.proofs.Bounds.{sent_within_lem, ovs_here}
 use Rattle.history.specs.History.{Sent, noted}
 use Rattle.history.proofs.Placed.{placed}
 use Rattle.history.proofs.Row.{sync_values, fup_values}
@@ -233,8 +233,8 @@ module _ (n : Node) (good : Good n) (i : ℕ) (below : i < places)
         Moves t g d l (record_at r.node.domains i)
         (noted i t g (eights (cycle_count r.answer) (cycle_bytes r.answer n t out)) l)
 
-    cycle-moves : CycleMoves (node_cycle_of n t (length out))
-    cycle-moves =
+    cycle_moves : CycleMoves (node_cycle_of n t (length out))
+    cycle_moves =
         either_told CycleMoves (is_good_reading n.kept t)
         (λ e.
         either_told CycleMoves (is_room_for n (length out))
@@ -285,8 +285,8 @@ module _ (n : Node) (good : Good n) (i : ℕ) (below : i < places)
         rw (none_of i below t g ids f [] l (omega (arith, number)) (λ q. apart (sym number ∙ q)))
         (as_it_was t)))
 
-    confirm-moves : ConfirmMoves (confirm_call_of c n.kept asked t counter (length out))
-    confirm-moves =
+    confirm_moves : ConfirmMoves (confirm_call_of c n.kept asked t counter (length out))
+    confirm_moves =
         by_admission (λ (a : Admission). ConfirmMoves (confirm_call_as a c n.kept t counter (length out))) n.kept t
         c.number c.settings.role asked master
         (λ tested.
@@ -296,7 +296,7 @@ module _ (n : Node) (good : Good n) (i : ℕ) (below : i < places)
         let is = master_admitted c.settings.role tested.in_role in
         let record_good = good.records (asked % places) (omega arith) in
         let before = (sent_within_lem (asked % places) n.kept c record_good _ told.held).5 in
-        let few = ovs-here (asked % places) n.kept c record_good is t counter from at told in
+        let few = ovs_here (asked % places) n.kept c record_good is t counter from at told in
         followed from at told few (omega (arith, tested.not_before))))
         kept_here kept_here
 
@@ -312,5 +312,5 @@ module _ (n : Node) (good : Good n) (i : ℕ) (below : i < places)
   master_moves (set asked t s ns) =
       placed (λ (x : Domain). Moves t g d l x l) n.domains (asked % places) i _ there
       (λ same. rw same (set_moves t asked s ns)) (λ apart. as_it_was t)
-  master_moves (cycle t out) = cycle-moves t out
-  master_moves (confirm asked t counter out) = confirm-moves asked t counter out
+  master_moves (cycle t out) = cycle_moves t out
+  master_moves (confirm asked t counter out) = confirm_moves asked t counter out

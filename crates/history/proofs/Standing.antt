@@ -110,12 +110,12 @@ record Stands (m : DomainSettings) (i : ℕ) (d : Domain) (l : List Sent) : Type
 
 module _ (m : DomainSettings) (i : ℕ) (t : VirtualLocalTime) (g : GlobalTime) where
   module _ (d : Domain) (l : List Sent) (number : d.number ≡ i) (s : Stands m i d l) where
-    sync-stands :
+    sync_stands :
         1 ≤ m.period → time_in d.base t ≡ g → (b : TimeBase) →
         DueAt d.settings.role d.settings.period d.base d.sending t b →
         Stands m i (sent_of d (time_at b t).0 (time_at b t).1 t).domain
         (sent_as t g d.settings.ids (sync_of t d b) ∷ l)
-    sync-stands p timed b due =
+    sync_stands p timed b due =
         record {
           settings = s.settings;
           latest = newest c y;
@@ -164,12 +164,12 @@ module _ (m : DomainSettings) (i : ℕ) (t : VirtualLocalTime) (g : GlobalTime) 
               read = cc;
             }
 
-    fup-stands :
+    fup_stands :
         (c : ℕ) (from : GlobalTime) (at : VirtualLocalTime) →
         OpenFor d.settings.confirmation_time d.sending t c from at → ovs_of from at t ≤ 3 → at.0 ≤ t.0 →
         Stands m i (followed_of d c (ovs_of from at t) (whole_of from at t).1 at).domain
         (sent_as t g d.settings.ids (fup_of t d c from at) ∷ l)
-    fup-stands c from at told few late =
+    fup_stands c from at told few late =
         record {
           settings = s.settings;
           latest = newest c y;
@@ -220,8 +220,8 @@ module _ (m : DomainSettings) (i : ℕ) (t : VirtualLocalTime) (g : GlobalTime) 
         opened = rw sending s.opened;
       }
   still_stands d l e after (sends _ _ _ _ held due rest) p n b s =
-      still_stands _ _ e after rest p n b (sync-stands d l n s p b held due)
-  still_stands d l e after (follows _ _ c from at told few late) p n b s = fup-stands d l n s c from at told few late
+      still_stands _ _ e after rest p n b (sync_stands d l n s p b held due)
+  still_stands d l e after (follows _ _ c from at told few late) p n b s = fup_stands d l n s c from at told few late
 
 -- ---- from the fresh node on
 

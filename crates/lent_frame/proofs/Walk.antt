@@ -8,7 +8,7 @@
 --   Parts, parts, joined         what is known of the fields of a known value, and makes a value known
 --   had, lying, told             what a known value owns is had for nothing; a value that lies in memory is known, and
 --                                so is one that a call gives
---   local, loads, loads-field    a local is found; it is loaded whole; a field of it is loaded
+--   local, loads, loads_field    a local is found; it is loaded whole; a field of it is loaded
 --   rooms            what is had of the locals where they are made, the last first
 --   bytes …          the parameter of bytes: its row, its local's type, what is known of it
 --   rest …           the parameters after the record, alike in both functions and in `frame_call`: two readings and the
@@ -171,10 +171,10 @@ module _ {M : Type 1} {𝓤 : Ura M} {𝓛 : Logic 𝓤} {J : Type 0} {Γ : List
         Opd J 𝓛 Γ E (copy (place i [])) v
     loads z n e = load z (local z) (look z n e)
 
-    pub loads-field :
+    pub loads_field :
         J → (n : ℕ) {k d : ℕ} {τ : Ty} {back : Val → Item 𝓤} → field_of (spot_of 𝓤 H E i).0 k ≡ some (τ, d) →
         Part J 𝓛 (nth 𝓛 n Γ) q τ (spot_of 𝓤 H E i).1 (0 + d) v back → Opd J 𝓛 Γ E (copy (place i (field k ∷ []))) v
-    loads-field z n e p = load z (from z (fld z e (stop z))) (look_in z n p)
+    loads_field z n e p = load z (from z (fld z e (stop z))) (look_in z n p)
 
 abbrev pub rooms : {M : Type 1} {𝓤 : Ura M} → List (Ty × ℕ) → List (Item 𝓤) → List (Item 𝓤)
 rooms [] Γ = Γ

@@ -9,7 +9,7 @@ use Rattle.promise.proofs.Tests.{either}
 use Rattle.clock.specs.declared.reading.VirtualLocalTime.{VirtualLocalTime}
 use Rattle.refusal.specs.declared.Refusal.{Refusal}
 use Rattle.domain.specs.declared.Domain.{Domain}
-use Rattle.master_set.specs.declared.SetAnswer.TheVariants.{Refused as set-refused}
+use Rattle.master_set.specs.declared.SetAnswer.TheVariants.{Refused as set_refused}
 use Rattle.master_set.specs.declared.SetStep.{SetStep}
 use Rattle.master_set.specs.Set.{set_of}
 
@@ -17,9 +17,9 @@ use Rattle.master_set.specs.Set.{set_of}
 
 pub refusal_keeps_set :
     (d : Domain) (t : VirtualLocalTime) (s n : ℕ) (refusal : Refusal) →
-    (set_of d t s n).answer ≡ set-refused refusal → (set_of d t s n).domain ≡ d
+    (set_of d t s n).answer ≡ set_refused refusal → (set_of d t s n).domain ≡ d
 refusal_keeps_set d t s n =
-    either (λ (r : SetStep). (refusal : Refusal) → r.answer ≡ set-refused refusal → r.domain ≡ d)
+    either (λ (r : SetStep). (refusal : Refusal) → r.answer ≡ set_refused refusal → r.domain ≡ d)
     (leb n 999999999) (λ r e. cc) (λ r e. refl)
 
 -- ---- what a set does

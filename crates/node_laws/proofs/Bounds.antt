@@ -8,9 +8,9 @@
 --   sent-within          what was sent last is as `SentWithin` says, whatever the role
 --   next-counter-within  the counter that is next is below 16
 --   by-followed          the FUP of a confirmation is one of a master's open SYNC, at most C old
---   ovs-here             whose OVS is at most 3
---   call-ovs-within      so that the OVS of a call's is
---   follow-exact         and its time is the SYNC's time plus the reading's advance
+--   ovs_here             whose OVS is at most 3
+--   call_ovs_within      so that the OVS of a call's is
+--   follow_exact         and its time is the SYNC's time plus the reading's advance
 -- Assumes nothing.
 use Prim.Native.Nat.{ℕ, ◌≤◌, ◌<◌}
 use mathlib.Core.Path.{◌≡◌, refl, sym, ap, subst}
@@ -136,14 +136,14 @@ module _ (i : ℕ) (kept : VirtualLocalTime) (d : Domain) (g : RecordGood i kept
       (asked : ℕ) (t : VirtualLocalTime) → ShowsRead (read_call_of d kept asked t)
   read_within asked t =
       by_admission (λ (a : Admission). ShowsRead (read_call_as a d t)) kept t d.number d.settings.role asked
-      Either (λ tested. by-base tested.in_range d.base refl) (refused _) (refused _)
+      Either (λ tested. by_base tested.in_range d.base refl) (refused _) (refused _)
     where
       refused : (refusal : Refusal) → ShowsRead (not-shown refusal)
       refused refusal shown e = let z : ◌≡◌ {A = ℕ} 0 1 = cc in absurd (omega arith)
 
-      by-base : t.0 ≤ 1000000000000000000 → (h : Held) → d.base ≡ h → ShowsRead (read_as h d t)
-      by-base in_range Unset is shown e = refused _ shown e
-      by-base in_range (Set b) is shown e =
+      by_base : t.0 ≤ 1000000000000000000 → (h : Held) → d.base ≡ h → ShowsRead (read_as h d t)
+      by_base in_range Unset is shown e = refused _ shown e
+      by_base in_range (Set b) is shown e =
           let same : time_at b t ≡ shown.time = cc in
           let bound = read_bound b t (base_within b is) in_range in
           rw (← same) (record { whole = omega (arith, bound.whole); part = bound.part })
@@ -155,12 +155,12 @@ module _ (i : ℕ) (kept : VirtualLocalTime) (d : Domain) (g : RecordGood i kept
       subst (SentWithin kept d.base d.next_counter) e (sent_as_lem d.settings.role kept d g.role)
 
   pub next_counter_within : d.next_counter < counters
-  next_counter_within = by-sending d.sending (sent_within_lem d.sending refl)
+  next_counter_within = by_sending d.sending (sent_within_lem d.sending refl)
     where
-      by-sending : (s : Sending) → SentWithin kept d.base d.next_counter s → d.next_counter < counters
-      by-sending Never h = omega arith
-      by-sending (Open counter seconds nanoseconds at) h = omega arith
-      by-sending (Confirmed at) h = h.1
+      by_sending : (s : Sending) → SentWithin kept d.base d.next_counter s → d.next_counter < counters
+      by_sending Never h = omega arith
+      by_sending (Open counter seconds nanoseconds at) h = omega arith
+      by_sending (Confirmed at) h = h.1
 
   -- ---- the FUP of an open SYNC, `told` by what it was confirmed with
 
@@ -177,12 +177,12 @@ module _ (i : ℕ) (kept : VirtualLocalTime) (d : Domain) (g : RecordGood i kept
         let settings = subst (λ (r : Role). is_good_as r d.settings ≡ true) is g.settings in
         omega (arith, told.soon, (master_range d.settings settings).confirmation.1)
 
-    pub ovs-here : ovs_of from at t ≤ 3
-    ovs-here = ovs_bound from at t good fresh
+    pub ovs_here : ovs_of from at t ≤ 3
+    ovs_here = ovs_bound from at t good fresh
 
-    follow-here :
+    follow_here :
         kept.0 ≤ t.0 → Follows d.sending counter t (followed_by d counter (ovs_of from at t) (whole_of from at t).1)
-    follow-here le =
+    follow_here le =
         record {
           time = from;
           at = at;
@@ -192,13 +192,13 @@ module _ (i : ℕ) (kept : VirtualLocalTime) (d : Domain) (g : RecordGood i kept
         }
 
   module _ (asked : ℕ) (t : VirtualLocalTime) (counter length : ℕ) where
-    pub call-ovs-within : OvsMost (confirm_call_of d kept asked t counter length).answer
-    call-ovs-within =
+    pub call_ovs_within : OvsMost (confirm_call_of d kept asked t counter length).answer
+    call_ovs_within =
         by_followed _ d kept t counter asked length
-        (λ is le from at told. omega (arith, ovs-here is t counter from at told))
+        (λ is le from at told. omega (arith, ovs_here is t counter from at told))
 
-    pub follow-exact :
+    pub follow_exact :
         (f : Fup) → (confirm_call_of d kept asked t counter length).answer ≡ Followed f → Follows d.sending counter t f
-    follow-exact =
+    follow_exact =
         by_followed (Follows d.sending counter t) d kept t counter asked length
-        (λ is le from at told. follow-here is t counter from at told le)
+        (λ is le from at told. follow_here is t counter from at told le)

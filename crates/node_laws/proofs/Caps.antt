@@ -1,8 +1,8 @@
 -- The caps of the calls' definitions are the identity on every reachable node. No contract cites this file.
 --   jump-leads     of two counters below 16, the jump is the one number below 16 that leads from one to the other
 --   held-before    on a good record, a reading that it holds is not after the kept one
---   joined-moved   and where a FUP joins the open pair of a base that is set, D is the difference itself
---   frame-moved    so that a frame that is answered by a D is answered by it
+--   joined_moved   and where a FUP joins the open pair of a base that is set, D is the difference itself
+--   frame_moved    so that a frame that is answered by a D is answered by it
 --   shown-exact    the time that a read shows is the base's plus t minus its reading
 --   sent-exact     and so is that of a SYNC
 --   caps-exact     each cap, for every reachable node
@@ -81,7 +81,7 @@ use Rattle.slave_answer.specs.Answer.{refused_of}
 use Rattle.slave_update.specs.Update.{new_base, moved_by}
 use Rattle.slave_update.proofs.Laws.{received_bound}
 use Rattle.slave_counter.specs.declared.RowCheck.{RowCheck}
-use Rattle.slave_counter.specs.declared.RowCheck.TheVariants.{NotGood, Joins as joins-row, Complete}
+use Rattle.slave_counter.specs.declared.RowCheck.TheVariants.{NotGood, Joins as joins_row, Complete}
 use Rattle.slave_sync.specs.Sync.{check_for, sync_as}
 use Rattle.slave_fup.specs.Fup.{update_in, fup_as}
 use Rattle.slave_frame.specs.Step.{kind_of}
@@ -228,15 +228,15 @@ module _ (i : ℕ) (kept : VirtualLocalTime) (d : Domain) (g : RecordGood i kept
   -- ---- D
 
   module _ (is : d.settings.role ≡ Slave) where
-    as-slave : SlaveGood kept d
-    as-slave = subst (λ (r : Role). RoleGood r kept d) is g.role
+    as_slave : SlaveGood kept d
+    as_slave = subst (λ (r : Role). RoleGood r kept d) is g.role
 
-    pub joined-moved :
+    pub joined_moved :
         (old : TimeBase) (p : Pair) (f : Fup) → d.base ≡ Set old → d.pairing ≡ open-pair p → f.ovs ≤ 3 →
         f.nanoseconds ≤ 999999999 → MovedExact old (new_base p f) (moved_by old (new_base p f))
-    joined-moved old p f set there ovs ns =
+    joined_moved old p f set there ovs ns =
         let at = held_before p.at (of_pair p there) in
-        let first : BaseFirst d.pairing (Set old) = subst (BaseFirst d.pairing) set as-slave.first in
+        let first : BaseFirst d.pairing (Set old) = subst (BaseFirst d.pairing) set as_slave.first in
         let order : old.at.0 ≤ p.at.0 = subst (λ (q : Pairing). BaseFirst q (Set old)) there first in
         let received = base_within i kept d g old set in
         let within : p.at.0 ≤ 1000000000000000000 = omega arith in
@@ -273,30 +273,30 @@ module _ (i : ℕ) (kept : VirtualLocalTime) (d : Domain) (g : RecordGood i kept
           is = refl;
           exact =
               subst (MovedExact old (new_base p f)) same
-              (joined-moved is old p f was told.held ovs told.in_range);
+              (joined_moved is old p f was told.held ovs told.in_range);
         }
 
-    refused-step : (refusal : Refusal) → StepMoves (refused_of d refusal)
-    refused-step refusal e = let no : ◌≡◌ {A = ℕ} 0 1 = cc in absurd (omega arith)
+    refused_step : (refusal : Refusal) → StepMoves (refused_of d refusal)
+    refused_step refusal e = let no : ◌≡◌ {A = ℕ} 0 1 = cc in absurd (omega arith)
 
     sync_moves : (s : Sync) (k : RowCheck) → StepMoves (sync_as k d t s)
     sync_moves s (NotGood row) e = let no : ◌≡◌ {A = ℕ} 0 1 = cc in absurd (omega arith)
-    sync_moves s (joins-row row) e = let no : ◌≡◌ {A = ℕ} 0 1 = cc in absurd (omega arith)
+    sync_moves s (joins_row row) e = let no : ◌≡◌ {A = ℕ} 0 1 = cc in absurd (omega arith)
     sync_moves s (Complete row) e = let no : ◌≡◌ {A = ℕ} 0 1 = cc in absurd (omega arith)
 
     kind_moves : d.settings.role ≡ Slave → (values : Frame) → Carried (Values values) → StepMoves (kind_of d t values)
     kind_moves is (sync s) c = sync_moves s (check_for d t s)
     kind_moves is (fup f) c =
         by_joined (λ (j : Joined). StepMoves (fup_as j d f)) d.settings.follow_up_time d.pairing t f
-        (refused-step _) (refused-step _) (refused-step _) (λ p told. fup_moves is f c p told d.base refl)
+        (refused_step _) (refused_step _) (refused_step _) (λ p told. fup_moves is f c p told d.base refl)
 
-    refused-moves : (refusal : Refusal) → CallMoves (Refused refusal)
-    refused-moves refusal e = let no : ◌≡◌ {A = ℕ} 0 1 = cc in absurd (omega arith)
+    refused_moves : (refusal : Refusal) → CallMoves (Refused refusal)
+    refused_moves refusal e = let no : ◌≡◌ {A = ℕ} 0 1 = cc in absurd (omega arith)
 
-    read-moves : (r : Read) → Carried r → CallMoves (read_for r d.number d.settings.role)
-    read-moves LengthNot8 c = refused-moves _
-    read-moves NoSuchType c = refused-moves _
-    read-moves (Values values) c =
+    read_moves : (r : Read) → Carried r → CallMoves (read_for r d.number d.settings.role)
+    read_moves LengthNot8 c = refused_moves _
+    read_moves NoSuchType c = refused_moves _
+    read_moves (Values values) c =
         either_told CallMoves (is_for d.number d.settings.role (domain_in values) slave)
         (λ for.
         let is =
@@ -304,14 +304,14 @@ module _ (i : ℕ) (kept : VirtualLocalTime) (d : Domain) (g : RecordGood i kept
         (both (eqb (domain_in values) d.number) (is_in d.settings.role slave) for).1
         in
         either StepMoves (is_taken d.settings.mode d.settings.ids bytes) (kind_moves is values c)
-        (refused-step _))
-        (λ e. refused-moves _)
+        (refused_step _))
+        (λ e. refused_moves _)
 
-    pub frame-moved :
+    pub frame_moved :
         (frame_call_of d kept t bytes).answer ≡ Updated moved →
         Moves d.base (frame_call_of d kept t bytes).domain.base moved
-    frame-moved =
-        either CallMoves (is_good_reading kept t) (read-moves (read_of bytes) (read_carried bytes)) (refused-moves _)
+    frame_moved =
+        either CallMoves (is_good_reading kept t) (read_moves (read_of bytes) (read_carried bytes)) (refused_moves _)
 
 -- ---- times
 
@@ -324,14 +324,14 @@ module _ (i : ℕ) (kept : VirtualLocalTime) (d : Domain) (g : RecordGood i kept
       (asked : ℕ) (shown : Shown) → read_call_of d kept asked t ≡ Time shown → TimeOf d.base t shown.time
   shown_exact asked shown =
       by_admission (λ (a : Admission). read_call_as a d t ≡ Time shown → TimeOf d.base t shown.time) kept t
-      d.number d.settings.role asked Either (λ tested. by-base tested d.base refl)
+      d.number d.settings.role asked Either (λ tested. by_base tested d.base refl)
       (refused_shows _ shown) (refused_shows _ shown)
     where
-      by-base :
+      by_base :
           Tested kept t d.settings.role Either → (h : Held) → d.base ≡ h → read_as h d t ≡ Time shown →
           TimeOf d.base t shown.time
-      by-base tested Unset is e = refused_shows _ shown e
-      by-base tested (Set b) is e =
+      by_base tested Unset is e = refused_shows _ shown e
+      by_base tested (Set b) is e =
           let same : time_at b t ≡ shown.time = cc in
           record {
             base = b;
@@ -382,13 +382,13 @@ caps_exact n r =
           (subst Carried e (read_carried bytes));
       joined =
           λ i h is old p set there bytes f e ns.
-          joined-moved i n.kept _ (good.records i h) good.kept is old p f set there
+          joined_moved i n.kept _ (good.records i h) good.kept is old p f set there
           (subst Carried e (read_carried bytes)) ns;
       moved =
           λ t bytes moved e.
           let at = addressed_by bytes in
           rw (stored_at n at at _ (node_frame_of n t bytes).node.kept refl (rw good.sixteen (omega arith)))
-          (frame-moved at n.kept _ (good.records at (omega arith)) good.kept t bytes moved e);
+          (frame_moved at n.kept _ (good.records at (omega arith)) good.kept t bytes moved e);
       shown =
           λ domain t shown e.
           shown_exact (domain % places) n.kept _ (good.records (domain % places) (omega arith)) t domain shown e;

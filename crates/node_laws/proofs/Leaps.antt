@@ -36,7 +36,7 @@ use Rattle.slave_pair.specs.Join.{joined_of}
 use Rattle.slave_answer.specs.declared.FrameStep.{FrameStep}
 use Rattle.slave_update.specs.Row.{leap_of, with_run}
 use Rattle.slave_update.specs.Update.{new_base}
-use Rattle.slave_update.proofs.Leaps.{leap-stays, leap-clears}
+use Rattle.slave_update.proofs.Leaps.{leap_stays, leap_clears}
 use Rattle.slave_status.specs.Status.{leap_bits}
 use Rattle.slave_counter.specs.declared.RowCheck.{RowCheck}
 use Rattle.slave_counter.specs.declared.RowCheck.TheVariants.{NotGood, Joins, Complete}
@@ -192,13 +192,13 @@ leap_shows n i cs before row d l h =
     let own = record_at n.domains i in
     let leap = leap_of own.settings.future_threshold own.settings.past_threshold d in
     ap leap_bits
-    (by_moves n i cs before row d l ∙ leap-stays _ _ _ own.leap before row d l.leap l.within h)
+    (by_moves n i cs before row d l ∙ leap_stays _ _ _ own.leap before row d l.leap l.within h)
     ∙ run_unseen leap (length row)
 
 pub leap_goes : LeapGoes
 leap_goes n i cs before row d l least h =
     by_moves n i cs before row d l
-    ∙ leap-clears _ _ _ (record_at n.domains i).leap before row d l.leap l.within least h
+    ∙ leap_clears _ _ _ (record_at n.domains i).leap before row d l.leap l.within least h
 
 -- ---- such calls there are: the bench's slave with its first time, a leap by 501 ms, and an update by 0, with a set of
 -- the master between them; its count is 1

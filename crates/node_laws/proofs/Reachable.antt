@@ -5,8 +5,8 @@
 --   record-good      and so is each of its records
 --   received-most    a received time is at most 4,294,967,298 s
 --   read-most        a read time is at most 5,294,967,298 s, and has nanoseconds in range
---   ovs-most         a FUP's OVS is at most 3, as its two bits can hold
---   fup-exact        and its time is that of the open SYNC plus the reading's advance, to the nanosecond
+--   ovs_most         a FUP's OVS is at most 3, as its two bits can hold
+--   fup_exact        and its time is that of the open SYNC plus the reading's advance, to the nanosecond
 --   base-exact       a base's time at t is its time plus t minus its reading
 --   sync-back        demand 2: each frame of a main cycle is read back as the values sent
 --   fup-back         and so is the FUP of a confirmation
@@ -52,8 +52,8 @@ use Rattle.node_laws.proofs.ReadBack.{good_sync_back, good_fup_back}
 use Rattle.node_laws.proofs.Bounds.{
   received_within,
   read_within,
-  call-ovs-within,
-  follow-exact,
+  call_ovs_within,
+  follow_exact,
   time_exact_here,
 }
 
@@ -142,16 +142,16 @@ module _ (n : Node) (r : Reachable n) where
       read_within (domain % places) n.kept (record_at n.domains (domain % places)) (at domain) domain
 
   module _ (domain : ℕ) (t : VirtualLocalTime) (counter length : ℕ) where
-    pub ovs-most : OvsMost (node_confirm_of n domain t counter length).answer
-    ovs-most =
-        call-ovs-within (domain % places) n.kept (record_at n.domains (domain % places)) (at domain) domain t
+    pub ovs_most : OvsMost (node_confirm_of n domain t counter length).answer
+    ovs_most =
+        call_ovs_within (domain % places) n.kept (record_at n.domains (domain % places)) (at domain) domain t
         counter length
 
-    pub fup-exact :
+    pub fup_exact :
         (f : Fup) → (node_confirm_of n domain t counter length).answer ≡ Followed f →
         Follows (record_at n.domains (domain % places)).sending counter t f
-    fup-exact =
-        follow-exact (domain % places) n.kept (record_at n.domains (domain % places)) (at domain) domain t
+    fup_exact =
+        follow_exact (domain % places) n.kept (record_at n.domains (domain % places)) (at domain) domain t
         counter length
 
   pub base_exact :

@@ -40,7 +40,7 @@ use Rattle.round.specs.FirstDue.{Each}
 use Rattle.node_laws.specs.Back.{SyncBack}
 use Rattle.node_laws.specs.Demands.{FupBack}
 use Rattle.node_laws.proofs.Cycles.{round_each}
-use Rattle.node_laws.proofs.Bounds.{by_followed, sent_within_lem, ovs-here}
+use Rattle.node_laws.proofs.Bounds.{by_followed, sent_within_lem, ovs_here}
 
 -- ---- a SYNC
 
@@ -88,7 +88,7 @@ call_fits i kept d g h asked t counter length =
     (λ is le from at told. record {
       domain = rw g.number h;
       counter = (sent_within_lem i kept d g _ told.held).1;
-      ovs = omega (arith, ovs-here i kept d g is t counter from at told);
+      ovs = omega (arith, ovs_here i kept d g is t counter from at told);
       nanoseconds = omega arith;
     })
 

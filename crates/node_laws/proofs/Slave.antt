@@ -343,23 +343,23 @@ module _ (i : ℕ) (kept t : VirtualLocalTime) (d : Domain) (g : RecordGood i ke
   StepGood s = RecordGood i (frame_kept (frame_number s.answer) kept t) s.domain
 
   module _ (le : kept.0 ≤ t.0) (is : d.settings.role ≡ Slave) where
-    abbrev at-t : RecordGood i t d
-    at-t = later i kept t d le g
+    abbrev at_t : RecordGood i t d
+    at_t = later i kept t d le g
 
-    as-slave : SlaveGood t d
-    as-slave = subst (λ (r : Role). RoleGood r t d) is at-t.role
+    as_slave : SlaveGood t d
+    as_slave = subst (λ (r : Role). RoleGood r t d) is at_t.role
 
-    as-role : (after : Domain) → SlaveGood t after → RoleGood d.settings.role t after
-    as-role after h = subst (λ (r : Role). RoleGood r t after) (sym is) h
+    as_role : (after : Domain) → SlaveGood t after → RoleGood d.settings.role t after
+    as_role after h = subst (λ (r : Role). RoleGood r t after) (sym is) h
 
     range : SlaveRange d.settings
     range = slave_range d.settings (subst (λ (r : Role). is_good_as r d.settings ≡ true) is g.settings)
 
     -- a record that differs in its pairing and its last SYNC
-    heard-good :
+    heard_good :
         (at : VirtualLocalTime) (pairing : Pairing) (last : LastSync) →
         SlaveGood at (with_last (with_pairing d pairing) last) → RecordGood i at (with_last (with_pairing d pairing) last)
-    heard-good at pairing last w =
+    heard_good at pairing last w =
         record {
           number = g.number;
           settings = g.settings;
@@ -381,46 +381,46 @@ module _ (i : ℕ) (kept t : VirtualLocalTime) (d : Domain) (g : RecordGood i ke
         (whole, inr (omega (arith, lost, range.loss.0)))
 
     -- and so it is where the row goes on
-    still-stale :
+    still_stale :
         (s : Sync) → row_of d.last + 1 < d.settings.hysteresis → (row : ℕ) (p : Pairing) →
         PairWithin t d.settings.follow_up_time d.settings.hysteresis d.last p →
         PairWithin t d.settings.follow_up_time d.settings.hysteresis (Seen s.counter row t) p
-    still-stale s lt row Waiting w = tt
-    still-stale s lt row (Open p) (whole, inr old) = (whole, inr old)
-    still-stale s lt row (Open p) (whole, inl own) =
+    still_stale s lt row Waiting w = tt
+    still_stale s lt row (Open p) (whole, inr old) = (whole, inr old)
+    still_stale s lt row (Open p) (whole, inl own) =
         absurd (omega (arith, lt, row_full _ d.last p own))
 
     opens : (s : Sync) → Carried (sync s) → RecordGood i t (with_pair d t s d.settings.hysteresis)
     opens s c =
         let h = d.settings.hysteresis in
-        heard-good t (Open (pair_of t s)) (Seen s.counter h t)
-        (listened d t s h (Open (pair_of t s)) c as-slave (omega arith) (c.1, inl (refl, refl, omega arith))
-        (base_first t s _ d.base as-slave.base))
+        heard_good t (Open (pair_of t s)) (Seen s.counter h t)
+        (listened d t s h (Open (pair_of t s)) c as_slave (omega arith) (c.1, inl (refl, refl, omega arith))
+        (base_first t s _ d.base as_slave.base))
 
-    joins-row :
+    joins_row :
         (s : Sync) (row : ℕ) → Carried (sync s) → row < d.settings.hysteresis →
         PairWithin t d.settings.follow_up_time d.settings.hysteresis (Seen s.counter row t) d.pairing →
         RecordGood i t (with_sync d t s row)
-    joins-row s row c lt pair =
-        heard-good t d.pairing (Seen s.counter row t)
-        (listened d t s row d.pairing c as-slave (omega (arith, lt)) pair as-slave.first)
+    joins_row s row c lt pair =
+        heard_good t d.pairing (Seen s.counter row t)
+        (listened d t s row d.pairing c as_slave (omega (arith, lt)) pair as_slave.first)
 
     sync_as_lem :
         (s : Sync) → Carried (sync s) → (v : CounterVerdict) (k : RowCheck) → verdict_for d t s ≡ v →
         Checked d.settings.hysteresis (row_of d.last) v k → StepGood (sync_as k d t s)
     sync_as_lem s c v k told refuses =
-        heard-good kept d.pairing _ (refused kept d (subst (λ (r : Role). RoleGood r kept d) is g.role))
-    sync_as_lem s c v k told (begins lt) = joins-row s 0 c lt (stale s told 0 d.pairing as-slave.pair)
+        heard_good kept d.pairing _ (refused kept d (subst (λ (r : Role). RoleGood r kept d) is g.role))
+    sync_as_lem s c v k told (begins lt) = joins_row s 0 c lt (stale s told 0 d.pairing as_slave.pair)
     sync_as_lem s c v k told (alone le) = opens s c
     sync_as_lem s c v k told (joins lt) =
-        joins-row s (row_of d.last + 1) c lt (still-stale s lt _ d.pairing as-slave.pair)
+        joins_row s (row_of d.last + 1) c lt (still_stale s lt _ d.pairing as_slave.pair)
     sync_as_lem s c v k told (completes le) = opens s c
 
-    sync-step : (s : Sync) → Carried (sync s) → StepGood (sync_of d t s)
-    sync-step s c = sync_as_lem s c (verdict_for d t s) (check_for d t s) refl (checked _ _ (verdict_for d t s))
+    sync_step : (s : Sync) → Carried (sync s) → StepGood (sync_of d t s)
+    sync_step s c = sync_as_lem s c (verdict_for d t s) (check_for d t s) refl (checked _ _ (verdict_for d t s))
 
-    count-least : 1 ≤ d.settings.clear_count
-    count-least = range.leaps.count.0
+    count_least : 1 ≤ d.settings.clear_count
+    count_least = range.leaps.count.0
 
     taken :
         (p : Pair) (f : Fup) (leap : Leap) → RunBelow d.settings.clear_count leap → f.ovs ≤ 3 →
@@ -432,33 +432,33 @@ module _ (i : ℕ) (kept t : VirtualLocalTime) (d : Domain) (g : RecordGood i ke
           settings_held = g.settings_held;
           ids = g.ids;
           updates = omega arith;
-          role = as-role (updated_of d p f leap) (updated d t p f leap below j o as-slave);
+          role = as_role (updated_of d p f leap) (updated d t p f leap below j o as_slave);
         }
 
-    kept-good : (number : ℕ) → RecordGood i (frame_kept number kept t) d
-    kept-good number =
+    kept_good : (number : ℕ) → RecordGood i (frame_kept number kept t) d
+    kept_good number =
         let P : VirtualLocalTime → Type 0 = λ k. RecordGood i k d in
-        either P (eqb number 15) at-t (either P (eqb number 0) at-t g)
+        either P (eqb number 15) at_t (either P (eqb number 0) at_t g)
 
     fup_as_lem :
         (j : Joined) (f : Fup) → f.ovs ≤ 3 → JoinedWith d.settings.hysteresis d.last f j →
         StepGood (fup_as j d f)
-    fup_as_lem (not_joined refusal) f o h = kept-good (number_of refusal)
+    fup_as_lem (not_joined refusal) f o h = kept_good (number_of refusal)
     fup_as_lem (With p) f o h =
         let u = update_in d d.base (new_base p f) in
-        let below = update_below _ count-least _ _ d.leap d.base (new_base p f) in
+        let below = update_below _ count_least _ _ d.leap d.base (new_base p f) in
         subst (λ (n : ℕ). RecordGood i (frame_kept n kept t) (updated_of d p f u.leap))
         (sym (update_taken _ _ _ _ d.base (new_base p f))) (taken p f u.leap below o h)
 
-    kind-step : (values : Frame) → Carried values → StepGood (kind_of d t values)
-    kind-step (sync s) c = sync-step s c
-    kind-step (fup f) c =
+    kind_step : (values : Frame) → Carried values → StepGood (kind_of d t values)
+    kind_step (sync s) c = sync_step s c
+    kind_step (fup f) c =
         fup_as_lem (joined_of d.settings.follow_up_time d.pairing t f) f c
-        (joined _ _ d.last d.pairing t f as-slave.pair)
+        (joined _ _ d.last d.pairing t f as_slave.pair)
 
     frame_step : (bytes : List ℕ) (values : Frame) → Carried values → StepGood (frame_of d t bytes values)
     frame_step bytes values c =
-        either StepGood (is_taken d.settings.mode d.settings.ids bytes) (kind-step values c) g
+        either StepGood (is_taken d.settings.mode d.settings.ids bytes) (kind_step values c) g
 
   -- ---- the call
 

@@ -97,15 +97,15 @@ module _ (R : (before after : Domain) → Type 0) (k : KeptByMaster R) where
     set_keeps Admitted s ns =
         either (λ (r : SetStep). R d r.domain) (leb ns 999999999) (k.timed d _ t) (k.same d)
 
-    followed-keeps : (f : Follow) (counter : ℕ) → R d (confirm_as f d counter).domain
-    followed-keeps (following ovs nanoseconds at) counter = k.confirmed d at
-    followed-keeps (not-following refusal) counter = k.same d
+    followed_keeps : (f : Follow) (counter : ℕ) → R d (confirm_as f d counter).domain
+    followed_keeps (following ovs nanoseconds at) counter = k.confirmed d at
+    followed_keeps (not-following refusal) counter = k.same d
 
     confirm_keeps :
         (a : Admission) (counter length : ℕ) → R d (confirm_call_as a d kept t counter length).domain
     confirm_keeps (Refused refusal) counter length = k.same d
     confirm_keeps Admitted counter length =
-        followed-keeps (follow_of d.settings.confirmation_time d.sending t counter (leb 8 length)) counter
+        followed_keeps (follow_of d.settings.confirmation_time d.sending t counter (leb 8 length)) counter
 
   -- ---- a turn
 
@@ -172,18 +172,18 @@ module _ (R : (before after : Domain) → Type 0) (k : Kept R) where
     abbrev still : R d d
     still = k.master.same d
 
-    fup-keeps : (j : Joined) (f : Fup) → R d (fup_as j d f).domain
-    fup-keeps (not_joined refusal) f = still
-    fup-keeps (With p) f = k.updated d p f _
+    fup_keeps : (j : Joined) (f : Fup) → R d (fup_as j d f).domain
+    fup_keeps (not_joined refusal) f = still
+    fup_keeps (With p) f = k.updated d p f _
 
-    sync-keeps : (c : RowCheck) (s : Sync) → R d (sync_as c d t s).domain
-    sync-keeps (NotGood row) s = k.heard d _
-    sync-keeps (Joins row) s = k.heard d _
-    sync-keeps (Complete row) s = k.paired d t s row
+    sync_keeps : (c : RowCheck) (s : Sync) → R d (sync_as c d t s).domain
+    sync_keeps (NotGood row) s = k.heard d _
+    sync_keeps (Joins row) s = k.heard d _
+    sync_keeps (Complete row) s = k.paired d t s row
 
     kind_keeps : (values : Frame) → R d (kind_of d t values).domain
-    kind_keeps (sync s) = sync-keeps (check_for d t s) s
-    kind_keeps (fup f) = fup-keeps (joined_of d.settings.follow_up_time d.pairing t f) f
+    kind_keeps (sync s) = sync_keeps (check_for d t s) s
+    kind_keeps (fup f) = fup_keeps (joined_of d.settings.follow_up_time d.pairing t f) f
 
     frame_keeps : (a : FrameAdmission) (bytes : List ℕ) → R d (frame_call_as a d kept t bytes).domain
     frame_keeps (refused refusal) bytes = still

@@ -42,10 +42,10 @@ use Rattle.round.specs.Round.{frames_by, sent_after, Gone, before, goes, round_o
 use Rattle.round.specs.FirstDue.{walk, due_among, served_of}
 use Rattle.round.specs.FirstDue.{Each, NotIn, AllApart, next_behind, frame_by, Serves, FirstDue}
 use Rattle.round.proofs.Places.{each_by, each_with, each_due, each_take, apart_due, apart_take}
-use Rattle.round.proofs.Places.{due_true, due_sum, first-full, said_count, among}
-use Rattle.round.proofs.Walk.{sum_below, walk_below, walk_apart, walk-all, walk-sum}
+use Rattle.round.proofs.Places.{due_true, due_sum, first_full, said_count, among}
+use Rattle.round.proofs.Walk.{sum_below, walk_below, walk_apart, walk_all, walk_sum}
 use Rattle.round.proofs.Serve.{after_length, after_other, after_served}
-use Rattle.round.proofs.Serve.{Told, saying, told_of, told, told-rests, told-serves}
+use Rattle.round.proofs.Serve.{Told, saying, told_of, told, told_rests, told_serves}
 
 abbrev none : Domain
 none = fresh_of 0 absent_held
@@ -100,12 +100,12 @@ module _ (t : VirtualLocalTime) where
         (told_by (most - (sent + 1)) ws (set ds at (send_as x d t).domain) (next_place places at))
 
     by_due : (x : Due) → due_in d t ≡ x → sent < most → Turned (send_as x d t)
-    by_due No e m = idle (told-rests places none due serve say (most - sent) at ws ds next (ap is_at e))
+    by_due No e m = idle (told_rests places none due serve say (most - sent) at ws ds next (ap is_at e))
     by_due (At s ns) e m =
         let more = most - (sent + 1) in
         let left : most - sent ≡ suc more = omega arith in
         let others = (walk_apart places (suc k) at h a).0 in
-        let sends = subst Sends e (told-serves places none due serve say more at ws ds next (ap is_at e) others) in
+        let sends = subst Sends e (told_serves places none due serve say more at ws ds next (ap is_at e) others) in
         let frames = frames_by (send_as (At s ns) d t).answer d.settings.ids in
         let after = set ds at (send_as (At s ns) d t).domain in
         let here = ap (next_place places) (mod-eq_of_lt a) in
@@ -192,14 +192,14 @@ module _ (ds : List Domain) (first : ℕ) (t : VirtualLocalTime) (most : ℕ) wh
       length (served_of ds first t most) ≡ min most (sum_below (λ (p : ℕ). cond (is_due (record_at ds p) t) 1 0) places)
   served_count =
       length-take most lined
-      ∙ ap (min most) (due_sum is_due_at way ∙ walk-sum places one_at (first % places) (begun first))
+      ∙ ap (min most) (due_sum is_due_at way ∙ walk_sum places one_at (first % places) (begun first))
 
   pub served_full :
       (p : ℕ) → p < places → is_due (record_at ds p) t ≡ true → NotIn p (served_of ds first t most) →
       length (served_of ds first t most) ≡ most
   served_full p b d =
-      first-full is_due_at p d most way
-      (λ lacks. walk-all places (λ (q : ℕ). q ≢ p) p b (first % places) (begun first) lacks refl)
+      first_full is_due_at p d most way
+      (λ lacks. walk_all places (λ (q : ℕ). q ≢ p) p b (first % places) (begun first) lacks refl)
 
   said_one :
       length (flat_map (λ (p : ℕ). frame_by (record_at ds p) t) (served_of ds first t most))

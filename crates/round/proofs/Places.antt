@@ -3,8 +3,8 @@
 --   apart-due, apart-take                     fewer of places that are apart are apart
 --   due-true     what `due_among` leaves is due
 --   due-sum      how many it leaves
---   due-lacks    it leaves out no place that is due
---   first-full   the first k of them leave out one that is there only where they are k
+--   due_lacks    it leaves out no place that is due
+--   first_full   the first k of them leave out one that is there only where they are k
 --   same-due     two tests that agree at each place leave the same
 --   same-said    so does what is said there
 --   said-count   where each place says one thing, as many are said as there are places
@@ -86,27 +86,27 @@ module _ (due : ℕ → Bool) where
 
   -- a place that is due is left out by none but a list where it does not stand
   module _ (x : ℕ) (d : due x ≡ true) where
-    lacks-if :
+    lacks_if :
         (p : ℕ) (ps rest : List ℕ) (b : Bool) → due p ≡ b → (NotIn x rest → NotIn x ps) →
         NotIn x (cond b (p ∷ rest) rest) → NotIn x (p ∷ ps)
-    lacks-if p ps rest true e on h = (h.0, on h.1)
-    lacks-if p ps rest false e on h = (λ same. true≢false (sym d ∙ ap due (sym same) ∙ e), on h)
+    lacks_if p ps rest true e on h = (h.0, on h.1)
+    lacks_if p ps rest false e on h = (λ same. true≢false (sym d ∙ ap due (sym same) ∙ e), on h)
 
-    pub due-lacks : (ps : List ℕ) → NotIn x (due_among due ps) → NotIn x ps
-    due-lacks [] h = tt
-    due-lacks (p ∷ ps) h = lacks-if p ps (due_among due ps) (due p) refl (due-lacks ps) h
+    pub due_lacks : (ps : List ℕ) → NotIn x (due_among due ps) → NotIn x ps
+    due_lacks [] h = tt
+    due_lacks (p ∷ ps) h = lacks_if p ps (due_among due ps) (due p) refl (due_lacks ps) h
 
-    full-if :
+    full_if :
         (k : ℕ) (ps l : List ℕ) (all : Bool) → leb (length l) k ≡ all → (NotIn x l → NotIn x ps) →
         (NotIn x ps → ⊥) → NotIn x (take k l) → length (take k l) ≡ k
-    full-if k ps l false e on there h = length-take-le k l (omega (arith, leb-false (length l) k e))
-    full-if k ps l true e on there h =
+    full_if k ps l false e on there h = length-take-le k l (omega (arith, leb-false (length l) k e))
+    full_if k ps l true e on there h =
         absurd (there (on (subst (NotIn x) (take_all k l (leb-true (length l) k e)) h)))
 
-    pub first-full :
+    pub first_full :
         (k : ℕ) (ps : List ℕ) → (NotIn x ps → ⊥) → NotIn x (take k (due_among due ps)) →
         length (take k (due_among due ps)) ≡ k
-    first-full k ps = full-if k ps (due_among due ps) (leb (length (due_among due ps)) k) refl (due-lacks ps)
+    first_full k ps = full_if k ps (due_among due ps) (leb (length (due_among due ps)) k) refl (due_lacks ps)
 
 -- ---- what is asked of each place alone decides
 

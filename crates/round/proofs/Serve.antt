@@ -3,8 +3,8 @@
 --   after-length   the records stay as many
 --   after-other    a record at no served place stays
 --   after-served   a record at a served place is served
---   told-rests     the turn of a record that is not due changes nothing
---   told-serves    the turn of one that is due serves it, and then what is left is told of the records after
+--   told_rests     the turn of a record that is not due changes nothing
+--   told_serves    the turn of one that is due serves it, and then what is left is told of the records after
 -- Assumes nothing.
 use Prim.Native.Nat.{ℕ, suc, ◌<◌}
 use mathlib.Core.Path.{◌≡◌, refl, sym, ap, ◌∙◌}
@@ -70,8 +70,8 @@ module _ {A B : Type 0} (n : ℕ) (e : A) (due : A → Bool) (serve : A → A) (
     abbrev rest : List ℕ
     rest = due_among (due_at l) ps
 
-    pub told-rests : due (get_or l p e) ≡ false → told left (p ∷ ps) l next ≡ told left ps l next
-    told-rests h = ap (λ (b : Bool). told_of (take left (cond b (p ∷ rest) rest)) l next) h
+    pub told_rests : due (get_or l p e) ≡ false → told left (p ∷ ps) l next ≡ told left ps l next
+    told_rests h = ap (λ (b : Bool). told_of (take left (cond b (p ∷ rest) rest)) l next) h
 
     -- no later place is p, so that what is due and said there is as it was
     module _ (h : due (get_or l p e) ≡ true) (others : NotIn p ps) where
@@ -87,19 +87,19 @@ module _ {A B : Type 0} (n : ℕ) (e : A) (due : A → Bool) (serve : A → A) (
       abbrev SaysSame : ℕ → Type 0
       SaysSame q = say_at l q ≡ say_at after q
 
-      same-words : flat_map (say_at l) (take left rest) ≡ flat_map (say_at after) (take left (due_among (due_at after) ps))
-      same-words =
+      same_words : flat_map (say_at l) (take left rest) ≡ flat_map (say_at after) (take left (due_among (due_at after) ps))
+      same_words =
           same_said (say_at l) (say_at after) (take left rest)
           (each_take SaysSame left rest (each_due SaysSame (due_at l) ps (stays say)))
           ∙ ap (flat_map (say_at after)) same_chosen
 
-      pub told-serves :
+      pub told_serves :
           told (suc left) (p ∷ ps) l next ≡ saying (say_at l p) (told left ps (served_at e serve l p) (next_place n p))
       unfolding flat_map
-      told-serves =
+      told_serves =
           ap (λ (b : Bool). told_of (take (suc left) (cond b (p ∷ rest) rest)) l next) h
           ∙ (λ i. (
             after_all e serve (same_chosen i) after,
             next_behind n (same_chosen i) (next_place n p),
-            say_at l p ++ same-words i,
+            say_at l p ++ same_words i,
           ))

@@ -2,8 +2,8 @@
 --   next-by      the place after p is p + 1, or 0 after the last
 --   walk-below   each place of a walk is one of the n
 --   walk-apart   a walk of at most n turns comes to no place twice
---   walk-all     a walk of n turns comes to every place
---   walk-sum     what is counted on it is counted over the places
+--   walk_all     a walk of n turns comes to every place
+--   walk_sum     what is counted on it is counted over the places
 -- Assumes nothing.
 use Prim.Native.Nat.{ℕ, zero, suc, ◌+◌, ◌-◌, ◌%◌, ◌≤◌, ◌<◌}
 use mathlib.Core.Path.{◌≡◌, refl, sym, ap, ◌∙◌, subst}
@@ -52,28 +52,28 @@ module _ (n : ℕ) where
     abbrev Misses : (k p : ℕ) → Type 0
     Misses k p = NotIn x (walk n k p)
 
-    from-below : (k p : ℕ) → x < n → p + k ≤ x → Misses k p
-    from-below zero p b h = tt
-    from-below (suc k) p b h = (
+    from_below : (k p : ℕ) → x < n → p + k ≤ x → Misses k p
+    from_below zero p b h = tt
+    from_below (suc k) p b h = (
       λ e. omega arith,
-      next_by (Misses k) n p (omega arith) (λ m. from-below k (p + 1) b (omega arith)) (λ m. absurd (omega arith)),
+      next_by (Misses k) n p (omega arith) (λ m. from_below k (p + 1) b (omega arith)) (λ m. absurd (omega arith)),
     )
 
-    from-above : (k p : ℕ) → x < p → p < n → p + k ≤ x + n → Misses k p
-    from-above zero p l b h = tt
-    from-above (suc k) p l b h = (
+    from_above : (k p : ℕ) → x < p → p < n → p + k ≤ x + n → Misses k p
+    from_above zero p l b h = tt
+    from_above (suc k) p l b h = (
       λ e. omega arith,
       next_by (Misses k) n p b
-          (λ m. from-above k (p + 1) (omega arith) m (omega arith))
-          (λ m. from-below k 0 (omega arith) (omega arith)),
+          (λ m. from_above k (p + 1) (omega arith) m (omega arith))
+          (λ m. from_below k 0 (omega arith) (omega arith)),
     )
 
   pub walk_apart : (k p : ℕ) → k ≤ n → p < n → AllApart (walk n k p)
   walk_apart zero p h b = tt
   walk_apart (suc k) p h b = (
     next_by (Misses p k) n p b
-        (λ m. from-above p k (p + 1) (omega arith) m (omega arith))
-        (λ m. from-below p k 0 b (omega arith)),
+        (λ m. from_above p k (p + 1) (omega arith) m (omega arith))
+        (λ m. from_below p k 0 b (omega arith)),
     walk_apart k (next_place n p) (omega arith) (next_below n p b),
   )
 
@@ -82,16 +82,16 @@ module _ (n : ℕ) where
     abbrev Comes : (k p : ℕ) → Type 0
     Comes k p = Each P (walk n k p) → P x
 
-    ahead-if : (here : Bool) (k p : ℕ) → eqb p x ≡ here → p ≤ x → (p < x → Comes k (p + 1)) → Comes (suc k) p
-    ahead-if true k p c l on e = subst P (eqb-true p x c) e.0
-    ahead-if false k p c l on e =
+    ahead_if : (here : Bool) (k p : ℕ) → eqb p x ≡ here → p ≤ x → (p < x → Comes k (p + 1)) → Comes (suc k) p
+    ahead_if true k p c l on e = subst P (eqb-true p x c) e.0
+    ahead_if false k p c l on e =
         let other : p ≢ x = eqb-false p x c in
         let more : p < x = omega arith in
         next_by (Comes k) n p (omega arith) (λ m. on more) (λ m. absurd (omega arith)) e.1
 
     ahead : (k p : ℕ) → p ≤ x → x < p + k → Comes k p
     ahead zero p l h = λ e. absurd (omega arith)
-    ahead (suc k) p l h = ahead-if (eqb p x) k p refl l (λ m. ahead k (p + 1) (omega arith) (omega arith))
+    ahead (suc k) p l h = ahead_if (eqb p x) k p refl l (λ m. ahead k (p + 1) (omega arith) (omega arith))
 
     behind : (k p : ℕ) → x < p → p < n → x + n < p + k → Comes k p
     behind zero p l a h = λ e. absurd (omega arith)
@@ -100,42 +100,42 @@ module _ (n : ℕ) where
         (λ m. behind k (p + 1) (omega arith) m (omega arith))
         (λ m. ahead k 0 (omega arith) (omega arith)) e.1
 
-    all-if : (at : ℕ) (past : Bool) → leb at x ≡ past → at < n → Comes n at
-    all-if at true c a = ahead n at (leb-true at x c) (omega (arith, leb-true at x c))
-    all-if at false c a = behind n at (leb-false at x c) a (omega (arith, leb-false at x c))
+    all_if : (at : ℕ) (past : Bool) → leb at x ≡ past → at < n → Comes n at
+    all_if at true c a = ahead n at (leb-true at x c) (omega (arith, leb-true at x c))
+    all_if at false c a = behind n at (leb-false at x c) a (omega (arith, leb-false at x c))
 
-    pub walk-all : (at : ℕ) → at < n → Each P (walk n n at) → P x
-    walk-all at = all-if at (leb at x) refl
+    pub walk_all : (at : ℕ) → at < n → Each P (walk n n at) → P x
+    walk_all at = all_if at (leb at x) refl
 
   -- up to the last place a walk counts those from p on, and round it those before p too
   module _ (f : ℕ → ℕ) where
     on : (p : ℕ) → sum_below f (p + 1) ≡ sum_below f p + f p
     on p = ap (sum_below f) (add-one p)
 
-    sum-up : (k p : ℕ) → p + k ≤ n → sum_below f p + sum_of f (walk n k p) ≡ sum_below f (p + k)
-    sum-up zero p h = omega (arith, ap (sum_below f) (add-zero p))
-    sum-up (suc k) p h =
+    sum_up : (k p : ℕ) → p + k ≤ n → sum_below f p + sum_of f (walk n k p) ≡ sum_below f (p + k)
+    sum_up zero p h = omega (arith, ap (sum_below f) (add-zero p))
+    sum_up (suc k) p h =
         let all = sum_below f (p + suc k) in
         next_by (λ (q : ℕ). sum_below f p + (f p + sum_of f (walk n k q)) ≡ all) n p (omega arith)
         (λ m. let same : p + 1 + k ≡ p + suc k = omega arith in
-        omega (arith, on p, sum-up k (p + 1) (omega arith), ap (sum_below f) same))
+        omega (arith, on p, sum_up k (p + 1) (omega arith), ap (sum_below f) same))
         (λ m. let same : p + 1 ≡ p + suc k = omega arith in
         let ended : 0 + k ≡ 0 = omega arith in
-        omega (arith, on p, sum-up k 0 (omega arith), ap (sum_below f) ended, ap (sum_below f) same))
+        omega (arith, on p, sum_up k 0 (omega arith), ap (sum_below f) ended, ap (sum_below f) same))
 
-    sum-round :
+    sum_round :
         (k p : ℕ) → p < n → n ≤ p + k → p + k ≤ n + n →
         sum_below f p + sum_of f (walk n k p) ≡ sum_below f n + sum_below f (p + k - n)
-    sum-round zero p b h l = absurd (omega arith)
-    sum-round (suc k) p b h l =
+    sum_round zero p b h l = absurd (omega arith)
+    sum_round (suc k) p b h l =
         let all = sum_below f n + sum_below f (p + suc k - n) in
         next_by (λ (q : ℕ). sum_below f p + (f p + sum_of f (walk n k q)) ≡ all) n p b
         (λ m. let same : p + 1 + k - n ≡ p + suc k - n = omega arith in
-        omega (arith, on p, sum-round k (p + 1) m (omega arith) (omega arith), ap (sum_below f) same))
+        omega (arith, on p, sum_round k (p + 1) m (omega arith) (omega arith), ap (sum_below f) same))
         (λ m. let same : 0 + k ≡ p + suc k - n = omega arith in
-        omega (arith, on p, sum-up k 0 (omega arith), ap (sum_below f) m, ap (sum_below f) same))
+        omega (arith, on p, sum_up k 0 (omega arith), ap (sum_below f) m, ap (sum_below f) same))
 
-    pub walk-sum : (at : ℕ) → at < n → sum_of f (walk n n at) ≡ sum_below f n
-    walk-sum at b =
+    pub walk_sum : (at : ℕ) → at < n → sum_of f (walk n n at) ≡ sum_below f n
+    walk_sum at b =
         let back : at + n - n ≡ at = omega arith in
-        omega (arith, sum-round n at b (omega arith) (omega arith), ap (sum_below f) back)
+        omega (arith, sum_round n at b (omega arith) (omega arith), ap (sum_below f) back)

@@ -22,7 +22,7 @@ use Rattle.slave_answer.specs.declared.FrameAnswer.{FrameAnswer}
 use Rattle.frame_read.specs.Read.{named_domain}
 use Rattle.node.specs.declared.Node.{Node}
 use Rattle.node.specs.Frame.{addressed_by, node_frame_of}
-use Rattle.node_call.specs.Calls.{Call, frame, read, set as set-call, cycle, confirm, node_after, node_after_all}
+use Rattle.node_call.specs.Calls.{Call, frame, read, set as set_call, cycle, confirm, node_after, node_after_all}
 use Rattle.node_laws.proofs.Stays.{settings_stay}
 use Rattle.sheet_tally.specs.declared.Tally.{Tally}
 use Rattle.sheet_tally.specs.declared.entry.Entry.{Entry}
@@ -71,8 +71,8 @@ module _ (role : ℕ → Role) (s : Sheet) (k : ℕ) (a : Adds role s k) (few : 
         ≡ cond (eqb at i) (counted_of old answer) (tally_at s.tallies i)
     stored i = at_set s.tallies at i (counted_of old answer) no_tally there
 
-    of-adds : Adds role (sheet_with s (Of named answer)) (k + 1)
-    of-adds =
+    of_adds : Adds role (sheet_with s (Of named answer)) (k + 1)
+    of_adds =
         let whole = a.whole in
         let small = one_at_most counts_in s.tallies at no_tally there in
         let more = counted_total old answer (a.seven at) counted (omega arith) in
@@ -103,11 +103,11 @@ call_adds n s k (frame t bytes) a few =
     either_told (λ (e : Entry). Adds (roles_of n) (sheet_with s e) (k + 1)) (ltb (column_of answer) columns)
     (λ e.
     let counted = ltb-true (column_of answer) columns e in
-    of-adds (roles_of n) s k a few (named_domain bytes) answer counted
+    of_adds (roles_of n) s k a few (named_domain bytes) answer counted
     (frame_slave (record_at n.domains (addressed_by bytes)) n.kept t bytes counted))
     (λ e. other_adds (roles_of n) s k a few)
 call_adds n s k (read domain t) a few = other_adds (roles_of n) s k a few
-call_adds n s k (set-call domain t seconds ns) a few = other_adds (roles_of n) s k a few
+call_adds n s k (set_call domain t seconds ns) a few = other_adds (roles_of n) s k a few
 call_adds n s k (cycle t out) a few = other_adds (roles_of n) s k a few
 call_adds n s k (confirm domain t counter out) a few = other_adds (roles_of n) s k a few
 

@@ -1,8 +1,8 @@
 -- How long a leap shows (paper 02, request 3). No contract cites this file.
 --   count-one     with a count of 1 the leap after an update is paper 01's, whatever is held
 --   leap-anew     what comes after a leap does not depend on what was before it
---   leap-stays    a leap shows after fewer than `count` updates within both thresholds, as many as the run says
---   leap-clears   and after `count` of them, or more, it does not
+--   leap_stays    a leap shows after fewer than `count` updates within both thresholds, as many as the run says
+--   leap_clears   and after `count` of them, or more, it does not
 -- Assumes nothing.
 use Prim.Native.Nat.{ℕ, zero, suc, ◌+◌, ◌-◌, ◌≤◌, ◌<◌}
 use mathlib.Core.Path.{◌≡◌, refl, ap, ◌∙◌}
@@ -112,11 +112,11 @@ module _ (future past count : ℕ) where
         leap_anew held before row d is
         ∙ ap (λ (l : Leap). after_all l row) (run_zero (is_future future d) (is_past past d))
 
-    pub leap-stays : length row < count → after_all held (before ++ d ∷ row) ≡ with_run leap (length row)
-    leap-stays h = begun ∙ stays leap 0 row w (omega arith) ∙ ap (with_run leap) (omega arith)
+    pub leap_stays : length row < count → after_all held (before ++ d ∷ row) ≡ with_run leap (length row)
+    leap_stays h = begun ∙ stays leap 0 row w (omega arith) ∙ ap (with_run leap) (omega arith)
 
-    pub leap-clears : 1 ≤ count → count ≤ length row → after_all held (before ++ d ∷ row) ≡ None
-    leap-clears least h = begun ∙ clears leap (count - 1) 0 row (omega arith) w (omega arith)
+    pub leap_clears : 1 ≤ count → count ≤ length row → after_all held (before ++ d ∷ row) ≡ None
+    leap_clears least h = begun ∙ clears leap (count - 1) 0 row (omega arith) w (omega arith)
 
 -- ---- such rows there are: thresholds 500, and a count of 2
 

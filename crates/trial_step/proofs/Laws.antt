@@ -2,8 +2,8 @@
 --   lent-least   at most 512 bytes are lent
 --   lent-count   the first bytes of the buffer of A5s, which are lent, are so many
 --   lent_is      and A5s
---   shown-room   there are as many once they are back, whatever they hold then
---   shown-is     and those are what the call left
+--   shown_room   there are as many once they are back, whatever they hold then
+--   shown_is     and those are what the call left
 --   numbered     a line that has the number alone, and the node beside it
 -- Assumes nothing.
 use Prim.Native.Nat.{ℕ, ◌≤◌, min}
@@ -35,11 +35,11 @@ module _ (k : ℕ) (most : k ≤ 512) where
   lent_is = take_replicate k 512 0xA5 most
 
   module _ (left : List ℕ) (long : length left ≡ length (take k buffer)) where
-    pub shown-room : k ≤ length (left ++ drop k buffer)
-    shown-room = omega (arith, length-append left (drop k buffer), lent_count)
+    pub shown_room : k ≤ length (left ++ drop k buffer)
+    shown_room = omega (arith, length-append left (drop k buffer), lent_count)
 
-    pub shown-is : take k (left ++ drop k buffer) ≡ left
-    shown-is = take_at left (drop k buffer) k (long ∙ sym lent_count)
+    pub shown_is : take k (left ++ drop k buffer) ≡ left
+    shown_is = take_at left (drop k buffer) k (long ∙ sym lent_count)
 
 pub numbered :
     {n m : Node} (item : ℕ) {number k at end : ℕ} {before after : List ℕ} →

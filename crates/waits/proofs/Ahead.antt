@@ -2,7 +2,7 @@
 -- test of due. No contract cites this file.
 --   ahead-same     it is decided by the count of each place
 --   ahead-fewer    it is less than the count of all places, if the place itself counts
---   ahead-longer   a longer walk that comes to the place has no more ahead of it
+--   ahead_longer   a longer walk that comes to the place has no more ahead of it
 --   passed_over    a round that passes a due place over serves s others ahead of it, and the next round starts behind
 --                  them: so much less is ahead
 -- Assumes nothing.
@@ -47,12 +47,12 @@ module _ (f : ℕ → ℕ) (x : ℕ) where
   ahead_fewer (p ∷ ps) counts there = fewer_if p ps (eqb p x) refl counts (ahead_fewer ps counts) there
 
   module _ (n : ℕ) where
-    pub ahead-longer :
+    pub ahead_longer :
         (k m p : ℕ) → k ≤ m → Among x (walk n k p) → ahead f x (walk n m p) ≡ ahead f x (walk n k p)
-    ahead-longer zero m p h there = absurd (there tt)
-    ahead-longer (suc k) zero p h there = absurd (omega (arith, h))
-    ahead-longer (suc k) (suc m) p h there =
-        go (eqb p x) refl (λ more. ahead-longer k m (next_place n p) (omega (arith, h)) more)
+    ahead_longer zero m p h there = absurd (there tt)
+    ahead_longer (suc k) zero p h there = absurd (omega (arith, h))
+    ahead_longer (suc k) (suc m) p h there =
+        go (eqb p x) refl (λ more. ahead_longer k m (next_place n p) (omega (arith, h)) more)
       where
         go :
             (here : Bool) → eqb p x ≡ here →
@@ -85,7 +85,7 @@ module _ (f : ℕ → ℕ) (x : ℕ) where
             (l : ℕ) → due at ≡ true → eqb at x ≡ false → NotIn x (first_of l ws) →
             ahead f x (walk n n (next_behind n (first_of l ws) (next_place n at))) + suc l ≤ f at + ahead f x ws
         serves zero d e none =
-            omega (arith, counts at d, ahead-longer k n (next_place n at) (omega arith) (later x at ws e there))
+            omega (arith, counts at d, ahead_longer k n (next_place n at) (omega arith) (later x at ws e there))
         serves (suc l) d e none =
             omega (arith, counts at d, rest (later x at ws e there) l (next_place n at) none)
 

@@ -1,7 +1,7 @@
 -- Who sends in a main cycle, by the frames that it gives. No contract cites this file.
 --   completed-cycle   what a completed main cycle makes of the node
---   senders-served    the frames that it gives name, in their order, the first S due domains from where the round stands
---   sends-served      so a domain sends exactly if it is one of these
+--   senders_served    the frames that it gives name, in their order, the first S due domains from where the round stands
+--   sends_served      so a domain sends exactly if it is one of these
 -- Assumes nothing.
 use Prim.Native.Nat.{ℕ, ◌<◌}
 use mathlib.Core.Path.{◌≡◌, refl, sym, ap, ◌∙◌}
@@ -103,13 +103,13 @@ module _ (n : Node) (t : VirtualLocalTime) (out : List ℕ) where
         names_it (send_of d t).answer d.settings.ids p h
         (rw (good.records p h).number at (sends_for (due_in d t) d t due))
 
-    pub senders-served : map addressed_by (given_by (answer_to n (cycle t out))) ≡ served
-    senders-served =
+    pub senders_served : map addressed_by (given_by (answer_to n (cycle t out))) ≡ served
+    senders_served =
         ap (map addressed_by)
         (cycle_given n t out (answered e) ∙ round_frames n.domains n.round t n.syncs_per_cycle)
         ∙ all_name (λ (p : ℕ). frame_by (record_at n.domains p) t) served
         (each_with named served (served_below n.domains n.round t n.syncs_per_cycle)
         (served_due n.domains n.round t n.syncs_per_cycle))
 
-    pub sends-served : (i : ℕ) → does_send n (cycle t out) i ≡ is_among i served
-    sends-served i = λ j. e j && is_among i (senders-served j)
+    pub sends_served : (i : ℕ) → does_send n (cycle t out) i ≡ is_among i served
+    sends_served i = λ j. e j && is_among i (senders_served j)

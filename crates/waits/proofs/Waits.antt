@@ -34,7 +34,7 @@ use Rattle.master_rules.proofs.Laws.{by_due}
 use Rattle.master_send.specs.Send.{is_at, is_due}
 use Rattle.round.specs.FirstDue.{walk, served_of, NotIn, next_behind}
 use Rattle.round.proofs.Places.{sum_of}
-use Rattle.round.proofs.Walk.{walk-all, walk-sum}
+use Rattle.round.proofs.Walk.{walk_all, walk_sum}
 use Rattle.round.proofs.FirstDue.{round_next}
 use Rattle.node.specs.declared.Node.{Node}
 use Rattle.node.specs.declared.cycles.NodeCycle.{NodeCycle}
@@ -57,7 +57,7 @@ use Rattle.waits.specs.Waits.{
   EachSends,
 }
 use Rattle.waits.proofs.Ahead.{ahead, ahead_same, ahead_fewer, passed_over}
-use Rattle.waits.proofs.Senders.{among_not, completed_cycle, sends-served}
+use Rattle.waits.proofs.Senders.{among_not, completed_cycle, sends_served}
 
 -- ---- the masters ahead of a place, from where the round stands
 
@@ -111,7 +111,7 @@ due_master d t =
 
 comes : (i first : ℕ) → i < places → NotIn i (walk places places (first % places)) → ⊥
 comes i first h none =
-    walk-all places (λ (q : ℕ). q ≢ i) i h (first % places) (mod-lt first (omega arith)) none refl
+    walk_all places (λ (q : ℕ). q ≢ i) i h (first % places) (mod-lt first (omega arith)) none refl
 
 module _ (n : Node) (good : Good n) (i : ℕ) (below : i < places) where
   module _ (t : VirtualLocalTime) (out : List ℕ) (c : is_completed n (cycle t out) ≡ true) where
@@ -133,7 +133,7 @@ module _ (n : Node) (good : Good n) (i : ℕ) (below : i < places) where
     passed due silent =
         passed_over (master_one n) i places (λ (p : ℕ). is_due (record_at n.domains p) t) counts due
         n.syncs_per_cycle (n.round % places) n.round (omega (arith, good.syncs)) (comes i n.round below)
-        (among_not i served (sym (sends-served n t out good c i) ∙ silent))
+        (among_not i served (sym (sends_served n t out good c i) ∙ silent))
 
   pub cycle_passes :
       (c : Call) → IsCall c → is_completed n c ≡ true → is_due (record_at n.domains i) (reading_of c) ≡ true →
@@ -173,7 +173,7 @@ module _ (i : ℕ) (below : i < places) where
 
   -- on a walk round all places every master is counted
   all_counted : (n : Node) (at : ℕ) → at < places → sum_of (master_one n) (walk places places at) ≡ masters n
-  all_counted n at h = omega (arith, walk-sum places (master_one n) at h)
+  all_counted n at h = omega (arith, walk_sum places (master_one n) at h)
 
   most_ahead : (n : Node) → is_master_at n i ≡ true → masters_ahead n i < masters n
   unfolding masters_ahead ahead_from

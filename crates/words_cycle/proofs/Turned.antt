@@ -1,11 +1,11 @@
 -- A record's turn. No contract cites this file.
 --   rests         one that is not due changes nothing
---   step-rests    so does one whose step does not send
---   step-sends    one whose step sends
+--   step_rests    so does one whose step does not send
+--   step_sends    one whose step sends
 --   Turned        what a turn of the round changes
 --   over          a turn when as many have sent as a cycle may
---   asked-rests   a turn of one that did not send
---   asked-sends   a turn of one that sent
+--   asked_rests   a turn of one that did not send
+--   asked_sends   a turn of one that sent
 -- Assumes nothing.
 use Prim.Native.Nat.{ℕ, ◌+◌, ◌%◌, ◌≤◌, ◌<◌}
 use mathlib.Core.Path.{◌≡◌, refl, sym, ap, ◌∙◌}
@@ -65,14 +65,14 @@ module _ (words : List ℕ) (at : ℕ) (t : VirtualLocalTime) (before : List ℕ
     its : s ≡ send_of (record_of words at) t
     its = es ∙ ap (λ (d : Domain). send_of d t) here
 
-    pub step-rests : s.answer ≡ NotDue → TurnedIn words at t before sent false words before
-    step-rests e = by_step s false words before its (rw e) (rw e) (rw e)
+    pub step_rests : s.answer ≡ NotDue → TurnedIn words at t before sent false words before
+    step_rests e = by_step s false words before its (rw e) (rw e) (rw e)
 
-    pub step-sends :
+    pub step_sends :
         (sync : Sync) (after out : List ℕ) → s.answer ≡ Sent sync → after ≡ sent_put words (at % places) s.domain →
         out ≡ pasted sent (frames_by (Sent sync) d.settings.ids) before →
         TurnedIn words at t before sent true after out
-    step-sends sync after out e ew eo =
+    step_sends sync after out e ew eo =
         by_step s true after out its (rw e)
         (ew ∙ rw e (ap (λ (p : ℕ). sent_put words p s.domain) same))
         (eo ∙ rw e (ap (λ (d : Domain). pasted sent (frames_by (Sent sync) d.settings.ids) before) here))
@@ -109,8 +109,8 @@ module _ (words : List ℕ) (at sent most next : ℕ) (t : VirtualLocalTime) (ou
       (record { words_after_lem = refl; count = refl; next_one = refl; bytes = refl })
 
   module _ (r : Bool) (words' out' : List ℕ) (h : sent < most) (p : TurnedIn words at t out sent r words' out') where
-    pub asked-rests : r ≡ false → One words' sent next out'
-    asked-rests e =
+    pub asked_rests : r ≡ false → One words' sent next out'
+    asked_rests e =
         let no = unsent (send_of (record_of words at) t).answer (sym p.sends ∙ e) in
         rw (lt-ltb sent most h)
         (record {
@@ -120,8 +120,8 @@ module _ (words : List ℕ) (at sent most next : ℕ) (t : VirtualLocalTime) (ou
           bytes = p.bytes;
         })
 
-    pub asked-sends : r ≡ true → at < places → One words' (sent + 1) (next_place places at) out'
-    asked-sends e b =
+    pub asked_sends : r ≡ true → at < places → One words' (sent + 1) (next_place places at) out'
+    asked_sends e b =
         let a = (send_of (record_of words at) t).answer in
         rw (lt-ltb sent most h)
         (record {

@@ -1,9 +1,9 @@
 -- Each call on the words of a node is that call on the node that they say. No contract cites this file.
---   frame-answer, set-answer, confirm-answer      the answer is the node's
---   frame-node, set-node, confirm-node            the words after say the node after
---   frame-size, set-size, confirm-size            the words keep their size
---   frame_refused, set-refused, confirm-refused   a refused call leaves every word, but for a frame's 6 and 15
---   confirm-bytes                                 the lent bytes are the node's
+--   frame-answer, set_answer, confirm_answer      the answer is the node's
+--   frame-node, set_node, confirm_node            the words after say the node after
+--   frame-size, set_size, confirm_size            the words keep their size
+--   frame_refused, set_refused, confirm_refused   a refused call leaves every word, but for a frame's 6 and 15
+--   confirm_bytes_lem                                 the lent bytes are the node's
 --   read_answer                                   a read answers as the node; it leaves the words
 -- Assumes nothing.
 use Prim.Native.Nat.{ℕ, ◌%◌, ◌<◌}
@@ -122,75 +122,75 @@ module _ (words : List ℕ) (domain t : ℕ) where
 
   -- ---- a set
   module _ (s ns : ℕ) where
-    abbrev set-call : SetCall
-    set-call = set_by words domain t s ns
+    abbrev set_call : SetCall
+    set_call = set_by words domain t s ns
 
-    node-set : set_call_of (record_at (node_of words).domains named) (kept_of words) domain at_time s ns ≡ set-call
-    node-set = ap (λ (d : Domain). set_call_of d (kept_of words) domain at_time s ns) same_record
+    node_set : set_call_of (record_at (node_of words).domains named) (kept_of words) domain at_time s ns ≡ set_call
+    node_set = ap (λ (d : Domain). set_call_of d (kept_of words) domain at_time s ns) same_record
 
-    pub set-answer : set-call.answer ≡ (node_set_of (node_of words) domain at_time s ns).answer
-    set-answer = sym (ap (λ (c : SetCall). c.answer) node-set)
+    pub set_answer : set_call.answer ≡ (node_set_of (node_of words) domain at_time s ns).answer
+    set_answer = sym (ap (λ (c : SetCall). c.answer) node_set)
 
-    pub set-node :
+    pub set_node :
         length words ≡ node_size →
-        node_of (set_words words domain set-call) ≡ (node_set_of (node_of words) domain at_time s ns).node
-    set-node size =
+        node_of (set_words words domain set_call) ≡ (node_set_of (node_of words) domain at_time s ns).node
+    set_node size =
         let d = record_of words named in
-        stored_node put_by_set words size named named_below (eqb (set_number set-call.answer) 0) set-call.domain
-        set-call.kept (set_after d (kept_of words) domain at_time s ns (state_fits words named))
+        stored_node put_by_set words size named named_below (eqb (set_number set_call.answer) 0) set_call.domain
+        set_call.kept (set_after d (kept_of words) domain at_time s ns (state_fits words named))
         (λ told. refusal_keeps_set_call d (kept_of words) domain at_time s ns (eqb-false _ 0 told))
-        ∙ sym (ap (λ (c : SetCall). stored_in (node_of words) named c.domain c.kept) node-set)
+        ∙ sym (ap (λ (c : SetCall). stored_in (node_of words) named c.domain c.kept) node_set)
 
-    pub set-size : length words ≡ node_size → length (set_words words domain set-call) ≡ node_size
-    set-size size =
-        stored_size put_by_set words size named named_below (eqb (set_number set-call.answer) 0)
-        set-call.domain set-call.kept
+    pub set_size : length words ≡ node_size → length (set_words words domain set_call) ≡ node_size
+    set_size size =
+        stored_size put_by_set words size named named_below (eqb (set_number set_call.answer) 0)
+        set_call.domain set_call.kept
 
-    pub set-refused : (set_number set-call.answer ≡ 0 → ⊥) → set_words words domain set-call ≡ words
-    set-refused n = rw (ne_eqb (set_number set-call.answer) 0 n)
+    pub set_refused : (set_number set_call.answer ≡ 0 → ⊥) → set_words words domain set_call ≡ words
+    set_refused n = rw (ne_eqb (set_number set_call.answer) 0 n)
 
   -- ---- a confirmation
   module _ (counter : ℕ) (out : List ℕ) where
-    abbrev confirm-call : ConfirmCall
-    confirm-call = confirm_by words domain t counter (length out)
+    abbrev confirm_call : ConfirmCall
+    confirm_call = confirm_by words domain t counter (length out)
 
-    node-confirm :
+    node_confirm :
         confirm_call_of (record_at (node_of words).domains named) (kept_of words) domain at_time counter (length out)
-        ≡ confirm-call
-    node-confirm = ap (λ (d : Domain). confirm_call_of d (kept_of words) domain at_time counter (length out)) same_record
+        ≡ confirm_call
+    node_confirm = ap (λ (d : Domain). confirm_call_of d (kept_of words) domain at_time counter (length out)) same_record
 
-    pub confirm-answer :
-        confirm-call.answer ≡ (node_confirm_of (node_of words) domain at_time counter (length out)).answer
-    confirm-answer = sym (ap (λ (c : ConfirmCall). c.answer) node-confirm)
+    pub confirm_answer :
+        confirm_call.answer ≡ (node_confirm_of (node_of words) domain at_time counter (length out)).answer
+    confirm_answer = sym (ap (λ (c : ConfirmCall). c.answer) node_confirm)
 
-    pub confirm-bytes :
-        confirm_bytes confirm-call.answer (record_of words named).settings.ids out
+    pub confirm_bytes_lem :
+        confirm_bytes confirm_call.answer (record_of words named).settings.ids out
         ≡ confirmed_bytes (node_confirm_of (node_of words) domain at_time counter (length out)).answer (node_of words)
         domain out
-    confirm-bytes =
+    confirm_bytes_lem =
         sym
         (ap (λ (d : Domain). confirm_bytes (confirm_call_of d (kept_of words) domain at_time counter (length out)).answer
         d.settings.ids out) same_record)
 
-    pub confirm-node :
+    pub confirm_node :
         length words ≡ node_size →
-        node_of (confirm_words words domain confirm-call)
+        node_of (confirm_words words domain confirm_call)
         ≡ (node_confirm_of (node_of words) domain at_time counter (length out)).node
-    confirm-node size =
+    confirm_node size =
         let d = record_of words named in
-        stored_node put_sent words size named named_below (eqb (confirm_number confirm-call.answer) 0)
-        confirm-call.domain confirm-call.kept
+        stored_node put_sent words size named named_below (eqb (confirm_number confirm_call.answer) 0)
+        confirm_call.domain confirm_call.kept
         (confirm_after d (kept_of words) domain at_time counter (length out) (state_fits words named))
         (λ told.
         let k = refusal_keeps_confirm_call d (kept_of words) domain at_time counter out (eqb-false _ 0 told) in
         (k.0, k.1))
-        ∙ sym (ap (λ (c : ConfirmCall). stored_in (node_of words) named c.domain c.kept) node-confirm)
+        ∙ sym (ap (λ (c : ConfirmCall). stored_in (node_of words) named c.domain c.kept) node_confirm)
 
-    pub confirm-size : length words ≡ node_size → length (confirm_words words domain confirm-call) ≡ node_size
-    confirm-size size =
-        stored_size put_sent words size named named_below (eqb (confirm_number confirm-call.answer) 0)
-        confirm-call.domain confirm-call.kept
+    pub confirm_size : length words ≡ node_size → length (confirm_words words domain confirm_call) ≡ node_size
+    confirm_size size =
+        stored_size put_sent words size named named_below (eqb (confirm_number confirm_call.answer) 0)
+        confirm_call.domain confirm_call.kept
 
-    pub confirm-refused :
-        (confirm_number confirm-call.answer ≡ 0 → ⊥) → confirm_words words domain confirm-call ≡ words
-    confirm-refused n = rw (ne_eqb (confirm_number confirm-call.answer) 0 n)
+    pub confirm_refused :
+        (confirm_number confirm_call.answer ≡ 0 → ⊥) → confirm_words words domain confirm_call ≡ words
+    confirm_refused n = rw (ne_eqb (confirm_number confirm_call.answer) 0 n)

@@ -1,8 +1,8 @@
 -- On the words of a node that fits, the words after a call are the words of the node after it. No contract cites this
 -- file.
 --   called-words                                  the law that the three calls share
---   frame-of-node, set-of-node, confirm-of-node   the words after are those of the node after
---   frame-fits, set-fits, confirm-fits            and that node fits
+--   frame_of_node, set_of_node, confirm_of_node   the words after are those of the node after
+--   frame-fits, set_fits, confirm-fits            and that node fits
 -- Assumes nothing.
 use Prim.Native.Nat.{ℕ, ◌%◌, ◌<◌}
 use mathlib.Core.Path.{◌≡◌, sym, ap, subst, ◌∙◌}
@@ -41,7 +41,7 @@ use Rattle.words_laws.proofs.Back.{node_size_lem, record_back, node_back, words_
 use Rattle.words_laws.proofs.OfNode.{frame_words_lem, base_words, sent_words}
 use Rattle.words_laws.proofs.Fits.{set_after, confirm_after}
 use Rattle.words_laws.proofs.FrameFits.{frame_after}
-use Rattle.words_laws.proofs.Calls.{frame_node, set-node, confirm-node}
+use Rattle.words_laws.proofs.Calls.{frame_node, set_node, confirm_node}
 
 module _ (n : Node) (f : NodeFits n) where
   size : length (node_words n) ≡ node_size
@@ -73,13 +73,13 @@ module _ (n : Node) (f : NodeFits n) where
     below : place < places
     below = mod-lt (named_domain bytes) (omega arith)
 
-    frame-says : node_of (frame_words (node_words n) t bytes) ≡ (node_frame_of n reading bytes).node
-    frame-says =
+    frame_says : node_of (frame_words (node_words n) t bytes) ≡ (node_frame_of n reading bytes).node
+    frame_says =
         frame_node (node_words n) t bytes size are
         ∙ ap (λ (m : Node). (node_frame_of m reading bytes).node) (node_back n f)
 
-    pub frame-of-node : frame_words (node_words n) t bytes ≡ node_words (node_frame_of n reading bytes).node
-    frame-of-node =
+    pub frame_of_node : frame_words (node_words n) t bytes ≡ node_words (node_frame_of n reading bytes).node
+    frame_of_node =
         let fits = f.records place below in
         let a = frame_after own n.kept reading bytes fits.state fits.settings are in
         called_words (is_stored (frame_number call.answer))
@@ -87,10 +87,10 @@ module _ (n : Node) (f : NodeFits n) where
         (record_back n f place below))
         (frame_words_lem (keeping n call.kept) f.sixteen place below call.domain a.settings a.number
         a.beside.sending a.beside.next)
-        frame-says
+        frame_says
 
     pub frame_fits : NodeFits (node_frame_of n reading bytes).node
-    frame_fits = subst NodeFits frame-says (words_node_fits (frame_words (node_words n) t bytes))
+    frame_fits = subst NodeFits frame_says (words_node_fits (frame_words (node_words n) t bytes))
 
   -- ---- calls that name a domain
   module _ (domain t : ℕ) where
@@ -108,58 +108,58 @@ module _ (n : Node) (f : NodeFits n) where
 
     -- ---- a set
     module _ (s ns : ℕ) where
-      abbrev set-call : SetCall
-      set-call = set_call_of asked n.kept domain at_time s ns
+      abbrev set_call : SetCall
+      set_call = set_call_of asked n.kept domain at_time s ns
 
-      abbrev words-set : List ℕ
-      words-set = set_words (node_words n) domain (set_by (node_words n) domain t s ns)
+      abbrev words_set : List ℕ
+      words_set = set_words (node_words n) domain (set_by (node_words n) domain t s ns)
 
-      set_says : node_of words-set ≡ (node_set_of n domain at_time s ns).node
+      set_says : node_of words_set ≡ (node_set_of n domain at_time s ns).node
       set_says =
-          set-node (node_words n) domain t s ns size
+          set_node (node_words n) domain t s ns size
           ∙ ap (λ (m : Node). (node_set_of m domain at_time s ns).node) (node_back n f)
 
-      pub set-of-node :
+      pub set_of_node :
           set_words (node_words n) domain (set_by (node_words n) domain t s ns)
           ≡ node_words (node_set_of n domain at_time s ns).node
-      set-of-node =
+      set_of_node =
           let a = set_after asked n.kept domain at_time s ns (f.records named named_below).state in
-          called_words (eqb (set_number set-call.answer) 0)
+          called_words (eqb (set_number set_call.answer) 0)
           (ap (λ (d : Domain). set_words (node_words n) domain (set_call_of d n.kept domain at_time s ns))
           (record_back n f named named_below))
-          (base_words (keeping n set-call.kept) f.sixteen named named_below set-call.domain a.settings
+          (base_words (keeping n set_call.kept) f.sixteen named named_below set_call.domain a.settings
           a.number a.beside) set_says
 
-      pub set-fits : NodeFits (node_set_of n domain at_time s ns).node
-      set-fits = subst NodeFits set_says (words_node_fits words-set)
+      pub set_fits : NodeFits (node_set_of n domain at_time s ns).node
+      set_fits = subst NodeFits set_says (words_node_fits words_set)
 
     -- ---- a confirmation
     module _ (counter : ℕ) (out : List ℕ) where
       abbrev room : ℕ
       room = length out
 
-      abbrev confirm-call : ConfirmCall
-      confirm-call = confirm_call_of asked n.kept domain at_time counter room
+      abbrev confirm_call : ConfirmCall
+      confirm_call = confirm_call_of asked n.kept domain at_time counter room
 
-      abbrev words-confirmed : List ℕ
-      words-confirmed = confirm_words (node_words n) domain (confirm_by (node_words n) domain t counter room)
+      abbrev words_confirmed : List ℕ
+      words_confirmed = confirm_words (node_words n) domain (confirm_by (node_words n) domain t counter room)
 
-      confirm-says : node_of words-confirmed ≡ (node_confirm_of n domain at_time counter room).node
-      confirm-says =
-          confirm-node (node_words n) domain t counter out size
+      confirm_says : node_of words_confirmed ≡ (node_confirm_of n domain at_time counter room).node
+      confirm_says =
+          confirm_node (node_words n) domain t counter out size
           ∙ ap (λ (m : Node). (node_confirm_of m domain at_time counter room).node) (node_back n f)
 
-      pub confirm-of-node :
+      pub confirm_of_node :
           confirm_words (node_words n) domain (confirm_by (node_words n) domain t counter (length out))
           ≡ node_words (node_confirm_of n domain at_time counter (length out)).node
-      confirm-of-node =
+      confirm_of_node =
           let a =
           confirm_after asked n.kept domain at_time counter room (f.records named named_below).state in
-          called_words (eqb (confirm_number confirm-call.answer) 0)
+          called_words (eqb (confirm_number confirm_call.answer) 0)
           (ap (λ (d : Domain). confirm_words (node_words n) domain
           (confirm_call_of d n.kept domain at_time counter room)) (record_back n f named named_below))
-          (sent_words (keeping n confirm-call.kept) f.sixteen named named_below confirm-call.domain
-          a.settings a.number a.beside) confirm-says
+          (sent_words (keeping n confirm_call.kept) f.sixteen named named_below confirm_call.domain
+          a.settings a.number a.beside) confirm_says
 
       pub confirm_fits : NodeFits (node_confirm_of n domain at_time counter (length out)).node
-      confirm_fits = subst NodeFits confirm-says (words_node_fits words-confirmed)
+      confirm_fits = subst NodeFits confirm_says (words_node_fits words_confirmed)

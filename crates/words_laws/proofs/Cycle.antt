@@ -247,8 +247,8 @@ module _ (words : List ℕ) (t : ℕ) where
         went_says words size places (round_of words % places) (mod-lt (round_of words) (omega arith)) 0 (syncs_of words)
         reading (round_of words)
 
-    gone-node : node_of (cycled_words words t) ≡ (cycled_by n reading (gone_from n reading)).node
-    gone-node =
+    gone_node : node_of (cycled_words words t) ≡ (cycled_by n reading (gone_from n reading)).node
+    gone_node =
         let w = went_from words t in
         let full = gone.after.size in
         head_node (set w.words 0 t) (length-set w.words 0 t ∙ full) (syncs_of words) w.next (omega arith)
@@ -257,20 +257,20 @@ module _ (words : List ℕ) (t : ℕ) where
         ∙ ap (λ (m : Node). with_head (with_kept m t) (syncs_of words) w.next) gone.after.node
         ∙ ap (with_head (with_kept (with_domains n (gone_from n reading).domains) t) (syncs_of words)) gone.next
 
-    gone-size : length (cycled_words words t) ≡ node_size
-    gone-size =
+    gone_size : length (cycled_words words t) ≡ node_size
+    gone_size =
         let w = (went_from words t).words in
         length-set (set w 0 t) 1 _ ∙ length-set w 0 t ∙ gone.after.size
 
-    answer-by : (good fits : Bool) → answer_by good fits ≡ (cycle_by n reading good fits).answer
-    answer-by true true = ap (λ (frames : List (List ℕ)). has-sent (length frames)) gone.frames
-    answer-by true false = refl
-    answer-by false fits = refl
+    answer_by_lem : (good fits : Bool) → answer_by good fits ≡ (cycle_by n reading good fits).answer
+    answer_by_lem true true = ap (λ (frames : List (List ℕ)). has-sent (length frames)) gone.frames
+    answer_by_lem true false = refl
+    answer_by_lem false fits = refl
 
     node_by :
         (good fits : Bool) →
         node_of (cond (eqb (number_by good fits) 0) (cycled_words words t) words) ≡ (cycle_by n reading good fits).node
-    node_by true true = gone-node
+    node_by true true = gone_node
     node_by true false = refl
     node_by false fits = refl
 
@@ -292,7 +292,7 @@ module _ (words : List ℕ) (t : ℕ) where
   pub cycle_answer_lem :
       (room : ℕ) → length words ≡ node_size →
       cycle_answer words t room ≡ (node_cycle_of (node_of words) reading room).answer
-  cycle_answer_lem room size = answer-by size is_good (is_room room)
+  cycle_answer_lem room size = answer_by_lem size is_good (is_room room)
 
   pub cycle_node :
       (room : ℕ) → length words ≡ node_size →
@@ -307,7 +307,7 @@ module _ (words : List ℕ) (t : ℕ) where
 
   pub cycle_size : (room : ℕ) → length words ≡ node_size → length (cycle_words words t room) ≡ node_size
   cycle_size room size =
-      either (λ (l : List ℕ). length l ≡ node_size) (eqb (cycle_number_in words t room) 0) (gone-size size) size
+      either (λ (l : List ℕ). length l ≡ node_size) (eqb (cycle_number_in words t room) 0) (gone_size size) size
 
   pub cycle_refused_lem : (room : ℕ) → (cycle_number_in words t room ≡ 0 → ⊥) → cycle_words words t room ≡ words
   cycle_refused_lem room refused =

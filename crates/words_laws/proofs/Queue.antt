@@ -24,7 +24,7 @@ use Rattle.node_words.specs.Node.{node_of, node_words, NodeFits}
 use Rattle.words_frame.specs.Frame.{frame_words}
 use Rattle.words_frame.specs.Queue.{frames_words, frames_numbers, queue_words, queue_numbers}
 use Rattle.words_laws.proofs.Calls.{frame_answer, frame_node, frame_size}
-use Rattle.words_laws.proofs.CallsOfNode.{frame-of-node, frame_fits}
+use Rattle.words_laws.proofs.CallsOfNode.{frame_of_node, frame_fits}
 
 -- ---- frame by frame
 
@@ -61,7 +61,7 @@ frames_of_node :
 frames_of_node n f [] fs are = refl
 frames_of_node n f (t ∷ ts) fs are =
     let bytes = take 8 fs in
-    ap (λ (l : List ℕ). frames_words l ts (drop 8 fs)) (frame-of-node n f t bytes are.0)
+    ap (λ (l : List ℕ). frames_words l ts (drop 8 fs)) (frame_of_node n f t bytes are.0)
     ∙ frames_of_node (node_frame_of n (record { 0 = t }) bytes).node (frame_fits n f t bytes are.0) ts (drop 8 fs)
     are.1
 

@@ -35,15 +35,15 @@ use Rattle.words_laws.proofs.Calls.{
   frame_size,
   frame_refused,
   read_answer,
-  set-answer,
-  set-node,
-  set-size,
-  set-refused,
-  confirm-answer,
-  confirm-node,
-  confirm-size,
-  confirm-refused,
-  confirm-bytes,
+  set_answer,
+  set_node,
+  set_size,
+  set_refused,
+  confirm_answer,
+  confirm_node,
+  confirm_size,
+  confirm_refused,
+  confirm_bytes,
 }
 use Rattle.words_laws.proofs.Cycle.{
   cycle_answer_lem,
@@ -78,10 +78,10 @@ same words size (read domain t) is =
     }
 same words size (set domain t s ns) is =
     record {
-      answer = ap Set (set-answer words domain t.0 s ns);
+      answer = ap Set (set_answer words domain t.0 s ns);
       bytes = λ before. refl;
-      node = set-node words domain t.0 s ns size;
-      size = set-size words domain t.0 s ns size;
+      node = set_node words domain t.0 s ns size;
+      size = set_size words domain t.0 s ns size;
     }
 same words size (cycle t out) is =
     record {
@@ -92,20 +92,20 @@ same words size (cycle t out) is =
     }
 same words size (confirm domain t counter out) is =
     record {
-      answer = ap Confirm (confirm-answer words domain t.0 counter out);
-      bytes = λ before. confirm-bytes words domain t.0 counter out;
-      node = confirm-node words domain t.0 counter out size;
-      size = confirm-size words domain t.0 counter out size;
+      answer = ap Confirm (confirm_answer words domain t.0 counter out);
+      bytes = λ before. confirm_bytes words domain t.0 counter out;
+      node = confirm_node words domain t.0 counter out size;
+      size = confirm_size words domain t.0 counter out size;
     }
 
 -- ---- Demand 1 on words: a refused call leaves every word, to the bit; 6 and 15 keep a row.
 pub refused_same : (words : List ℕ) (c : Call) → StateStays (call_number (answer_in words c)) → words_after words c ≡ words
 refused_same words (frame t bytes) stays = frame_refused words t.0 bytes stays
 refused_same words (read domain t) stays = refl
-refused_same words (set domain t s ns) stays = set-refused words domain t.0 s ns stays.0
+refused_same words (set domain t s ns) stays = set_refused words domain t.0 s ns stays.0
 refused_same words (cycle t out) stays =
     cycle_refused_lem words t.0 (length out) (λ e. stays.0 (sym (cycle_number_lem words t.0 (length out)) ∙ e))
-refused_same words (confirm domain t counter out) stays = confirm-refused words domain t.0 counter out stays.0
+refused_same words (confirm domain t counter out) stays = confirm_refused words domain t.0 counter out stays.0
 
 -- ---- Calls one after another.
 pub same_answer :

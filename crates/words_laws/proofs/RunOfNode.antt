@@ -23,17 +23,17 @@ use Rattle.words_new.specs.New.{given_at, node_given}
 use Rattle.words_laws.specs.Run.{words_after, answers_on, words_after_all}
 use Rattle.words_laws.proofs.Parts.{by_at}
 use Rattle.words_laws.proofs.Back.{node_size_lem, node_back, words_node_fits, AllFit, new_fits}
-use Rattle.words_laws.proofs.CallsOfNode.{frame-of-node, set-of-node, confirm-of-node}
+use Rattle.words_laws.proofs.CallsOfNode.{frame_of_node, set_of_node, confirm_of_node}
 use Rattle.words_laws.proofs.CycleOfNode.{cycle_of_node}
 use Rattle.words_laws.proofs.Run.{same, same_answers}
 
 -- ---- From the words of a node on.
 pub of_node : (n : Node) → NodeFits n → (c : Call) → IsCall c → words_after (node_words n) c ≡ node_words (node_after n c)
-of_node n f (frame t bytes) is = frame-of-node n f t.0 bytes is
+of_node n f (frame t bytes) is = frame_of_node n f t.0 bytes is
 of_node n f (read domain t) is = refl
-of_node n f (set domain t s ns) is = set-of-node n f domain t.0 s ns
+of_node n f (set domain t s ns) is = set_of_node n f domain t.0 s ns
 of_node n f (cycle t out) is = cycle_of_node n f t.0 (length out)
-of_node n f (confirm domain t counter out) is = confirm-of-node n f domain t.0 counter out
+of_node n f (confirm domain t counter out) is = confirm_of_node n f domain t.0 counter out
 
 fits_after : (n : Node) → NodeFits n → (c : Call) → IsCall c → NodeFits (node_after n c)
 fits_after n f c is =
