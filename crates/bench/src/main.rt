@@ -3,6 +3,6 @@
 
 use runs::Program;
 
-fn main() {
-    runs::run_on_input(Program::Bench);
+fn main(rt: HostRuntime) {
+    runs::run_on_input(&rt, Program::Bench);
 }

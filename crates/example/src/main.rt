@@ -3,24 +3,22 @@
 // Readings are written out where a product reads its clock, and frames where it has them from the bus.
 #![tactic(auto)]
 
-use io::{print_decimal, print_hex, write_all};
 use knottgust::{
     CheckMode, CycleAnswer, DomainSettings, FrameAnswer, GlobalTime, Node, NodeSettings,
     ReadAnswer, Role, VirtualLocalTime, on_confirmation, on_frame, on_main_cycle, on_queue,
     on_read, on_set,
 };
-use libc::STDOUT_FILENO;
 
 const SLAVE: u8 = 1;
 
 const MASTER: u8 = 2;
 
-fn main() {
+fn main(rt: HostRuntime) {
     let new = Node::new(settings());
     let verdict = new.verdict;
-    say(b"settings", verdict.number());
-    receive(new.node);
-    send(new.node);
+    say(&rt, "settings", verdict.number());
+    receive(&rt, new.node);
+    send(&rt, new.node);
 }
 
 // S 1; domain 1 a slave and domain 2 a master; the others absent.
@@ -83,30 +81,30 @@ fn master() -> DomainSettings {
 }
 
 // A SYNC and its FUP, and the time a second later. Go on with the node that a call gives back.
-fn receive(node: Node) {
+fn receive(rt: &impl Print, node: Node) {
     let sync = [0x10, 0xBB, 0x11, 0xAA, 0x00, 0x00, 0x0E, 0x10];
     let fup = [0x18, 0x00, 0x11, 0x00, 0x00, 0x00, 0x00, 0x64];
     let heard = on_frame(node, VirtualLocalTime(5_000_000_000), &sync);
     let taken = heard.answer;
-    say(b"SYNC", taken.number());
+    say(rt, "SYNC", taken.number());
     let joined = on_frame(heard.node, VirtualLocalTime(5_010_000_000), &fup);
     let answer = joined.answer;
-    say(b"FUP", answer.number());
+    say(rt, "FUP", answer.number());
     if let FrameAnswer::FirstTaken = answer {
-        write_all(STDOUT_FILENO, b"the first time of this domain\n");
+        let _ = println!(rt; "the first time of this domain");
     }
     let read = on_read(joined.node, SLAVE, VirtualLocalTime(6_010_000_000));
-    say(b"read", read.number());
+    say(rt, "read", read.number());
     if let ReadAnswer::Time(shown) = read {
         let time = shown.time;
-        say_time(time);
+        say_time(rt, time);
     }
-    receive_queue(joined.node);
+    receive_queue(rt, joined.node);
 }
 
 // The SYNC and the FUP a second later, as the bus driver's queue has them: a reading for each frame, eight bytes for
 // each, and room for a number for each.
-fn receive_queue(node: Node) {
+fn receive_queue(rt: &impl Print, node: Node) {
     let readings = [6_020_000_000, 6_030_000_000];
     let frames = [
         0x10, 0xBB, 0x12, 0xAA, 0x00, 0x00, 0x0E, 0x11, 0x18, 0x00, 0x12, 0x00, 0x00, 0x00, 0x00,
@@ -115,13 +113,13 @@ fn receive_queue(node: Node) {
     let mut numbers = [0u8; 2];
     let queued = on_queue(node, &readings, &frames, &mut numbers);
     let taken = queued.answer;
-    say(b"queue", taken.number());
-    say(b"its SYNC", numbers[0]);
-    say(b"its FUP", numbers[1]);
+    say(rt, "queue", taken.number());
+    say(rt, "its SYNC", numbers[0]);
+    say(rt, "its FUP", numbers[1]);
 }
 
 // The base set, a SYNC in a main cycle, and its FUP once the controller says that the SYNC left.
-fn send(node: Node) {
+fn send(rt: &impl Print, node: Node) {
     let mut out = [0u8; 8];
     let set = on_set(
         node,
@@ -131,12 +129,12 @@ fn send(node: Node) {
         999_999_000,
     );
     let done = set.answer;
-    say(b"set", done.number());
+    say(rt, "set", done.number());
     let cycle = on_main_cycle(set.node, VirtualLocalTime(7_000_000_000), &mut out);
     let answer = cycle.answer;
-    say(b"main cycle", answer.number());
+    say(rt, "main cycle", answer.number());
     if let CycleAnswer::Sent(_) = answer {
-        say_frame(out);
+        say_frame(rt, out);
     }
     // the counter of a SYNC stands in the low four bits of byte 2
     let counter = out[2] % 16;
@@ -148,37 +146,33 @@ fn send(node: Node) {
         &mut out,
     );
     let followed = confirmed.answer;
-    say(b"confirmation", followed.number());
-    say_frame(out);
+    say(rt, "confirmation", followed.number());
+    say_frame(rt, out);
 }
 
 // What was called, and the number of its answer: 0 is success.
-fn say(what: &[u8], number: u8) {
-    write_all(STDOUT_FILENO, what);
-    write_all(STDOUT_FILENO, b" ");
-    print_decimal(STDOUT_FILENO, number as u64);
-    write_all(STDOUT_FILENO, b"\n");
+fn say(rt: &impl Print, what: &str, number: u8) {
+    let _ = println!(rt; "{what} {number}");
 }
 
-fn say_time(time: GlobalTime) {
-    print_decimal(STDOUT_FILENO, time.0);
-    write_all(STDOUT_FILENO, b" s and ");
-    print_decimal(STDOUT_FILENO, time.1 as u64);
-    write_all(STDOUT_FILENO, b" ns\n");
+fn say_time(rt: &impl Print, time: GlobalTime) {
+    let seconds = time.0;
+    let nanoseconds = time.1;
+    let _ = println!(rt; "{seconds} s and {nanoseconds} ns");
 }
 
-fn say_frame(frame: [u8; 8]) {
-    say_byte(frame[0]);
-    say_byte(frame[1]);
-    say_byte(frame[2]);
-    say_byte(frame[3]);
-    say_byte(frame[4]);
-    say_byte(frame[5]);
-    say_byte(frame[6]);
-    say_byte(frame[7]);
-    write_all(STDOUT_FILENO, b"\n");
+fn say_frame(rt: &impl Print, frame: [u8; 8]) {
+    say_byte(rt, frame[0]);
+    say_byte(rt, frame[1]);
+    say_byte(rt, frame[2]);
+    say_byte(rt, frame[3]);
+    say_byte(rt, frame[4]);
+    say_byte(rt, frame[5]);
+    say_byte(rt, frame[6]);
+    say_byte(rt, frame[7]);
+    let _ = println!(rt; "");
 }
 
-fn say_byte(byte: u8) {
-    print_hex(STDOUT_FILENO, byte as u64, 2);
+fn say_byte(rt: &impl Print, byte: u8) {
+    let _ = print!(rt; "{byte:02x}");
 }

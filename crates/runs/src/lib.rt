@@ -8,6 +8,7 @@ use bench_settings::bench_settings;
 use bench_step::bench_step;
 use node::Node;
 use settings::{DomainSettings, NodeSettings};
+use std::io::Read;
 use text::lines::put_cut;
 use text::pieces::{Filled, keep_rest, next_item, refill, say_unread, with_room, write_out};
 use trial_step::item::item_length;
@@ -25,6 +26,9 @@ const RECORD: usize = 20;
 // No line is longer (`line_fits`).
 const LINE: usize = 1088;
 
+// How many bytes are read and written at once at most.
+const PIECE: usize = 65_536;
+
 #[derive(Clone, Copy)]
 struct Run {
     node: Node,
@@ -40,21 +44,28 @@ struct Run {
     goes_on: bool,
 }
 
-pub fn run_on_input(program: Program) {
-    let mut input = io::large_buffer();
-    let mut out = io::large_buffer();
-    run_all(program, &mut input, &mut out);
+pub fn run_on_input(rt: &(impl Input + Print + Eprint), program: Program) {
+    let mut from = rt.reader();
+    let mut input = [0u8; PIECE];
+    let mut out = [0u8; PIECE];
+    run_all(rt, &mut from, program, &mut input, &mut out);
 }
 
 // A proved loop has to end, and nothing says that the input does: no run uses these turns up.
-fn run_all(program: Program, input: &mut [u8], out: &mut [u8]) {
+fn run_all(
+    rt: &(impl Print + Eprint),
+    from: &mut impl Read,
+    program: Program,
+    input: &mut [u8],
+    out: &mut [u8],
+) {
     let mut run = fresh_run(program);
     let mut turns = u64::MAX;
     while turns > 0 {
         if !run.goes_on {
             return;
         }
-        run = read_on(program, run, input, out);
+        run = read_on(rt, from, program, run, input, out);
         turns -= 1;
     }
 }
@@ -85,25 +96,32 @@ fn first_settings(program: Program) -> NodeSettings {
 }
 
 // Reads once, answers the whole items, and keeps the rest.
-fn read_on(program: Program, run: Run, input: &mut [u8], out: &mut [u8]) -> Run {
+fn read_on(
+    rt: &(impl Print + Eprint),
+    from: &mut impl Read,
+    program: Program,
+    run: Run,
+    input: &mut [u8],
+    out: &mut [u8],
+) -> Run {
     let mut next = run;
-    match refill(input, run.held) {
+    match refill(from, input, run.held) {
         Filled::Failed => {
-            say_unread();
+            say_unread(rt);
             next.goes_on = false;
         }
         Filled::End => {
             if run.held > 0 {
                 let end = put_cut(out, 0, run.item);
-                write_out(out, end);
+                write_out(rt, out, end);
             }
             next.goes_on = false;
         }
         Filled::Holds(held) => {
             next.held = held;
             next.more = true;
-            next = take_items(program, next, input, out);
-            if !write_out(out, next.at) {
+            next = take_items(rt, program, next, input, out);
+            if !write_out(rt, out, next.at) {
                 next.goes_on = false;
             }
             next.held = keep_rest(input, next.used, held);
@@ -115,21 +133,21 @@ fn read_on(program: Program, run: Run, input: &mut [u8], out: &mut [u8]) -> Run 
 }
 
 // Every whole item that is held, in order, as long as the run goes on. An item has a byte at least.
-fn take_items(program: Program, run: Run, input: &[u8], out: &mut [u8]) -> Run {
+fn take_items(rt: &impl Print, program: Program, run: Run, input: &[u8], out: &mut [u8]) -> Run {
     let mut next = run;
     let mut left = run.held;
     while left > 0 {
         if !next.more {
             return next;
         }
-        next = take_item(program, next, input, out);
+        next = take_item(rt, program, next, input, out);
         left -= 1;
     }
     next
 }
 
 // The item that begins at the first byte not taken, where it is whole.
-fn take_item(program: Program, run: Run, input: &[u8], out: &mut [u8]) -> Run {
+fn take_item(rt: &impl Print, program: Program, run: Run, input: &[u8], out: &mut [u8]) -> Run {
     let mut next = run;
     next.more = false;
     let used = run.used;
@@ -144,7 +162,7 @@ fn take_item(program: Program, run: Run, input: &[u8], out: &mut [u8]) -> Run {
     if held - used < length {
         return next;
     }
-    let at = with_room(out, run.at, LINE);
+    let at = with_room(rt, out, run.at, LINE);
     next = step(program, run, &input[used..used + length], out, at);
     next.used = used + length;
     next

@@ -7,7 +7,11 @@ use bench_settings::bench_settings;
 use node::Node;
 use sheet_step::report::put_report;
 use sheet_step::{Account, take_records};
+use std::io::Read;
 use text::pieces::{Filled, keep_rest, refill, say_unread, write_out};
+
+// How many bytes are read and written at once at most.
+const PIECE: usize = 65_536;
 
 #[derive(Drop)]
 struct Run {
@@ -17,21 +21,22 @@ struct Run {
     goes_on: bool,
 }
 
-fn main() {
-    let mut input = io::large_buffer();
-    let mut out = io::large_buffer();
-    run_all(&mut input, &mut out);
+fn main(rt: HostRuntime) {
+    let mut from = rt.reader();
+    let mut input = [0u8; PIECE];
+    let mut out = [0u8; PIECE];
+    run_all(&rt, &mut from, &mut input, &mut out);
 }
 
 // A proved loop has to end, and nothing says that the input does: no run uses these turns up.
-fn run_all(input: &mut [u8], out: &mut [u8]) {
+fn run_all(rt: &(impl Print + Eprint), from: &mut impl Read, input: &mut [u8], out: &mut [u8]) {
     let mut run = fresh_run();
     let mut turns = u64::MAX;
     while turns > 0 {
         if !run.goes_on {
             return;
         }
-        run = read_on(run, input, out);
+        run = read_on(rt, from, run, input, out);
         turns -= 1;
     }
 }
@@ -47,14 +52,20 @@ fn fresh_run() -> Run {
 
 // Reads once and takes the whole records; at the end of the input, or at a bad record, reports. Where reading fails
 // there is no sheet: it would hide records.
-fn read_on(run: Run, input: &mut [u8], out: &mut [u8]) -> Run {
-    match refill(input, run.held) {
+fn read_on(
+    rt: &(impl Print + Eprint),
+    from: &mut impl Read,
+    run: Run,
+    input: &mut [u8],
+    out: &mut [u8],
+) -> Run {
+    match refill(from, input, run.held) {
         Filled::Failed => {
-            say_unread();
+            say_unread(rt);
             ended(run)
         }
-        Filled::End => report(run, out),
-        Filled::Holds(held) => taken(run, input, held, out),
+        Filled::End => report(rt, run, out),
+        Filled::Holds(held) => taken(rt, run, input, held, out),
     }
 }
 
@@ -64,14 +75,14 @@ fn ended(run: Run) -> Run {
     next
 }
 
-fn report(run: Run, out: &mut [u8]) -> Run {
+fn report(rt: &impl Print, run: Run, out: &mut [u8]) -> Run {
     let end = put_report(out, 0, run.account, run.held);
-    write_out(out, end);
+    write_out(rt, out, end);
     ended(run)
 }
 
 // The whole records among the first `held` bytes, and the rest in front.
-fn taken(run: Run, input: &mut [u8], held: usize, out: &mut [u8]) -> Run {
+fn taken(rt: &impl Print, run: Run, input: &mut [u8], held: usize, out: &mut [u8]) -> Run {
     if input.len() < held {
         return ended(run);
     }
@@ -82,7 +93,7 @@ fn taken(run: Run, input: &mut [u8], held: usize, out: &mut [u8]) -> Run {
         goes_on: true,
     };
     if account.bad {
-        return report(next, out);
+        return report(rt, next, out);
     }
     next
 }

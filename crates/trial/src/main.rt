@@ -3,6 +3,6 @@
 
 use runs::Program;
 
-fn main() {
-    runs::run_on_input(Program::Trial);
+fn main(rt: HostRuntime) {
+    runs::run_on_input(&rt, Program::Trial);
 }
