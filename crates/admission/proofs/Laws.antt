@@ -1,8 +1,8 @@
 -- What is known of a call that was admitted. No contract cites this file.
---   good-reading     a good reading is in range and not before the kept one
---   by-admission     what an admission is: admitted, or refused by 1 or 4; `Tested` is told where it is admitted
---   slave-admitted   a record admitted as a slave's is one
---   master-admitted  a record admitted as a master's is one
+--   good_reading     a good reading is in range and not before the kept one
+--   by_admission     what an admission is: admitted, or refused by 1 or 4; `Tested` is told where it is admitted
+--   slave_admitted   a record admitted as a slave's is one
+--   master_admitted  a record admitted as a master's is one
 -- Assumes nothing.
 use Prim.Native.Nat.{ℕ, ◌≤◌}
 use mathlib.Core.Path.{◌≡◌, refl}

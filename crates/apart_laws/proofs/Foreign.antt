@@ -4,7 +4,7 @@
 --   no_such_type     of no type of the four by 3
 --   another_record   one of another domain than the record's by 4
 --                    and each leaves the record and the kept reading as they were
---   foreign-done     any call that is not for a record: what it answers does not depend on the record, which stays
+--   foreign_done     any call that is not for a record: what it answers does not depend on the record, which stays
 -- Assumes nothing.
 use Prim.Native.Nat.{ℕ}
 use mathlib.Core.Path.{◌≡◌, refl}

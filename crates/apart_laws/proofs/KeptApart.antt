@@ -1,6 +1,6 @@
 -- Records kept apart are the node (paper 02, request 11). No contract cites this file.
---   number-stays   a call leaves the number of every record
---   kept-apart     calls on one record each, at places that are right: the same answers and contents as the node
+--   number_stays   a call leaves the number of every record
+--   kept_apart     calls on one record each, at places that are right: the same answers and contents as the node
 -- Assumes nothing.
 use Prim.Native.Nat.{ℕ, ◌%◌, ◌<◌, ◌≤◌}
 use mathlib.Core.Path.{◌≡◌, refl, sym, ap, subst, ◌∙◌}

@@ -1,10 +1,10 @@
 -- What meets the hypotheses of `kept_apart`. No contract cites this file.
---   reachable-one-each   a node that is reachable has one record per domain
---   pick-right           byte 2 of a frame, or the domain asked for, modulo 16: a place that is right for any call
+--   reachable_one_each   a node that is reachable has one record per domain
+--   pick_right           byte 2 of a frame, or the domain asked for, modulo 16: a place that is right for any call
 --   picked_apart         so that any calls at these places are to the records what they are to the node
---   kept-apart-new       the same of records that the product makes itself, one per domain, and the node of `new`
---   calls-met            calls of the bench, with junk and a domain above 15 on other records, and their numbers
---   not-met              P1 on another record than its own is refused: the place matters
+--   kept_apart_new       the same of records that the product makes itself, one per domain, and the node of `new`
+--   calls_met            calls of the bench, with junk and a domain above 15 on other records, and their numbers
+--   not_met              P1 on another record than its own is refused: the place matters
 -- Assumes nothing.
 use Prim.Native.Nat.{ℕ, ◌%◌, ◌<◌}
 use mathlib.Core.Path.{◌≡◌, refl, sym, ap, subst, ◌∙◌}

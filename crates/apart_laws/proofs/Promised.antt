@@ -1,8 +1,8 @@
 -- What the functions promise is what `done_on` says: `frame_on`, and the calls by value. No contract cites this file.
---   frame-done     whatever satisfies the promise of `frame_on`, the lent record after it among that
+--   frame_done     whatever satisfies the promise of `frame_on`, the lent record after it among that
 --   read_done      that of `read_call`
---   set-done       that of `set_call`
---   confirm-done   that of `confirm_call`, the lent bytes after it among that
+--   set_done       that of `set_call`
+--   confirm_done   that of `confirm_call`, the lent bytes after it among that
 -- Assumes nothing.
 use Prim.Native.Nat.{ℕ}
 use mathlib.Core.Path.{◌≡◌, ap, ◌∙◌}

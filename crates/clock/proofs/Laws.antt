@@ -1,15 +1,15 @@
 -- Laws of the two clocks, in the order of the definitions. No contract cites this file.
---   carry-exact        the carry loses nothing where the seconds fit, at every width of the seconds
---   carry-wider        and is then the same at every greater width
---   carry-bound        carried seconds fit their width
---   advance-exact      a time a span later is that many nanoseconds later, where the seconds fit
---   advance-add        two spans one after the other are their sum
---   advance-good       a time a span later has nanoseconds in range
---   time-later         a base's time at a later reading is the earlier time plus the span
---   time-exact         a base's time at t, in the range of the paper, is its time plus t minus its reading
---   read-bound         and is at most what the paper allows for a read time
---   within-told        a time that passes the test of a range is within it
---   within-is          and one within it passes
+--   carry_exact        the carry loses nothing where the seconds fit, at every width of the seconds
+--   carry_wider        and is then the same at every greater width
+--   carry_bound        carried seconds fit their width
+--   advance_exact      a time a span later is that many nanoseconds later, where the seconds fit
+--   advance_add        two spans one after the other are their sum
+--   advance_good       a time a span later has nanoseconds in range
+--   time_later         a base's time at a later reading is the earlier time plus the span
+--   time_exact         a base's time at t, in the range of the paper, is its time plus t minus its reading
+--   read_bound         and is at most what the paper allows for a read time
+--   within_told        a time that passes the test of a range is within it
+--   within_is          and one within it passes
 -- Assumes nothing.
 use Prim.Native.Nat.{ℕ, ◌+◌, ◌*◌, ◌/◌, ◌%◌, ◌^◌, ◌≤◌, ◌<◌}
 use mathlib.Core.Path.{◌≡◌, refl, sym, ap, ap₂, ◌∙◌}

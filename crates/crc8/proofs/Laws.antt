@@ -1,9 +1,9 @@
 -- Laws of the check byte. No contract cites this file.
---   step-bound          a polynomial step of any number gives a byte
---   eight-steps-bound   eight polynomial steps of any number give a byte
---   remainder-bound     from a byte, the remainder over any list is a byte
---   crc-bound           the CRC of any list is a byte
---   check-bound         the check byte of any list and any DataID is a byte
+--   step_bound          a polynomial step of any number gives a byte
+--   eight_steps_bound   eight polynomial steps of any number give a byte
+--   remainder_bound     from a byte, the remainder over any list is a byte
+--   crc_bound           the CRC of any list is a byte
+--   check_bound         the check byte of any list and any DataID is a byte
 -- Assumes nothing.
 use mathlib.Core.Bool.{Bool, true, false, cond}
 use mathlib.Core.List.{List, [], ◌∷◌, ◌++◌}

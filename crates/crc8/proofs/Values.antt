@@ -1,7 +1,7 @@
 -- The list of a function's values at 0, 1, 2 and so on: a table that follows one rule. No contract
 -- cites this file.
---   values-at    what stands at k is the function's value at k
---   values-all   a list is the list of its own elements
+--   values_at    what stands at k is the function's value at k
+--   values_all   a list is the list of its own elements
 -- Assumes nothing.
 use mathlib.Core.Path.{◌≡◌, refl, ap}
 use mathlib.Core.List.{List, [], ◌∷◌}

@@ -1,6 +1,6 @@
 -- Laws of the record. No contract cites this file.
---   record-size     a record has 200 bytes on the machine that the proofs speak of
---   update-bound    the update counter stays a byte
+--   record_size     a record has 200 bytes on the machine that the proofs speak of
+--   update_bound    the update counter stays a byte
 -- Assumes nothing.
 use Prim.Native.Nat.{ℕ, ◌<◌}
 use mathlib.Core.Path.{◌≡◌, refl}

@@ -1,9 +1,9 @@
 -- Laws of the frames. No contract cites this file.
---   read-back       what is written from values that fit is read as the same values (demand 2)
---   write-back      a frame that reads, with a right check byte if it has one and zero reserved bits,
+--   read_back       what is written from values that fit is read as the same values (demand 2)
+--   write_back      a frame that reads, with a right check byte if it has one and zero reserved bits,
 --                   is written back byte for byte (demand 2)
---   byte-below      each place of bytes holds one
---   good-back       what is written is good under each mode that takes its kind
+--   byte_below      each place of bytes holds one
+--   good_back       what is written is good under each mode that takes its kind
 --   named_back      it names the domain of its values
 -- Assumes nothing.
 use Prim.Native.Nat.{ℕ, zero, suc, ◌+◌, ◌*◌, ◌/◌, ◌%◌, ◌^◌, ◌<◌}

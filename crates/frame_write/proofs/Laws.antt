@@ -1,5 +1,5 @@
 -- Laws of the bytes of a frame. No contract cites this file.
---   bytes-length    a frame has 8 bytes
+--   bytes_length    a frame has 8 bytes
 -- Assumes nothing.
 use Prim.Native.Nat.{ℕ}
 use mathlib.Core.Path.{◌≡◌, refl}

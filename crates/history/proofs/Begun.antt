@@ -1,5 +1,5 @@
 -- Before the first call each record is the fresh one of its settings. No contract cites this file.
---   fresh-record   the records of a fresh node
+--   fresh_record   the records of a fresh node
 -- Assumes nothing.
 use Prim.Native.Nat.{ℕ, zero, suc, ◌+◌, ◌<◌}
 use mathlib.Core.Path.{◌≡◌, ap, ◌∙◌}

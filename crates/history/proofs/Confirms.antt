@@ -1,5 +1,5 @@
 -- Demand 3, "its confirmation". No contract cites this file.
---   each-fup-confirms   each FUP that is sent stands next after a SYNC with its counter, at most C later
+--   each_fup_confirms   each FUP that is sent stands next after a SYNC with its counter, at most C later
 -- Assumes nothing.
 use mathlib.Core.Path.{◌≡◌, sym, ◌∙◌, subst}
 use mathlib.Core.Bool.{true, true≢false}

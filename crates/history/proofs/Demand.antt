@@ -1,5 +1,5 @@
 -- Demand 3, all of it. No contract cites this file.
---   demand-three   the statements of `Demand` hold
+--   demand_three   the statements of `Demand` hold
 -- Assumes nothing.
 use Rattle.history.specs.Demand.{DemandThree}
 use Rattle.history.proofs.HeardAll.{each_frame_heard}

@@ -1,6 +1,6 @@
 -- What was sent stays sent. No contract cites this file.
---   sent-grows   a call adds to what was sent
---   in-more      what stands in a list stands in a longer one
+--   sent_grows   a call adds to what was sent
+--   in_more      what stands in a list stands in a longer one
 -- Assumes nothing.
 use Prim.Native.Nat.{ℕ}
 use mathlib.Core.Path.{◌≡◌, refl, sym, ◌∙◌}

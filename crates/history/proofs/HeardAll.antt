@@ -1,5 +1,5 @@
 -- Demand 3, "set so that the slave reads the master's frames". No contract cites this file.
---   each-frame-heard   each frame that the master sends in the domain is heard wherever it is handed in
+--   each_frame_heard   each frame that the master sends in the domain is heard wherever it is handed in
 -- Assumes nothing.
 use Prim.Native.Nat.{ℕ}
 use mathlib.Core.Path.{◌≡◌, refl, ap, ◌∙◌}

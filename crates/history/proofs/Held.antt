@@ -1,5 +1,5 @@
 -- Demand 3, the first sentence. No contract cites this file.
---   each-time-held   each time the slave holds is that of one SYNC, carried on to its confirmation and tied to
+--   each_time_held   each time the slave holds is that of one SYNC, carried on to its confirmation and tied to
 --                    the slave's reading at a copy of that SYNC
 -- Assumes nothing.
 use Prim.Native.Nat.{ℕ, ◌+◌, ◌≤◌}

@@ -1,6 +1,6 @@
 -- What a call does to a master's record, and what it gives of the domain. No contract cites this file.
 --   Moves            what a call at t may do to a record and to the list of what was sent in its domain
---   master-moves     what a call of a good node does to a master's record, and gives in its domain, is such a move
+--   master_moves     what a call of a good node does to a master's record, and gives in its domain, is such a move
 -- Assumes nothing.
 use Prim.Native.Nat.{ℕ, zero, suc, ◌%◌, ◌≤◌, ◌<◌}
 use mathlib.Core.Path.{◌≡◌, refl, sym, ap, ◌∙◌, subst}

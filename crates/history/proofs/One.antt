@@ -1,7 +1,7 @@
 -- Demand 3, of a time that is of one SYNC. No contract cites this file.
 --   not_after        what was sent before the copy came was not sent after it
---   each-sync-one    what was handed in is a copy of no other frame
---   each-time-near   the time is at most E behind, and at most C ahead
+--   each_sync_one    what was handed in is a copy of no other frame
+--   each_time_near   the time is at most E behind, and at most C ahead
 -- Assumes nothing.
 use Prim.Native.Nat.{ℕ, ◌+◌, ◌/◌, ◌^◌, ◌≤◌, ◌<◌}
 use mathlib.Core.Path.{◌≡◌, sym, ap, ◌∙◌, subst}

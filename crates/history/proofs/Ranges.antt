@@ -1,5 +1,5 @@
 -- The settings of linked nodes are in range. No contract cites this file.
---   slave-in-range, master-in-range   of the link's domain, in the slave and in the master
+--   slave_in_range, master_in_range   of the link's domain, in the slave and in the master
 -- Assumes nothing.
 use Prim.Native.Nat.{ℕ, zero, suc}
 use mathlib.Core.Path.{◌≡◌, refl, subst}

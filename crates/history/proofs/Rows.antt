@@ -1,13 +1,13 @@
 -- What follows from a row of sendings. No contract cites this file.
---   sync-bytes, fup-bytes   byte 0 says the kind, byte 2 the counter
+--   sync_bytes, fup_bytes   byte 0 says the kind, byte 2 the counter
 --   aged                    it stands some SYNCs before the newest, at least as many periods
 --   apart                   two with one counter are one, or sixteen periods apart
---   each-known              each frame of a row is a SYNC, or a FUP next to the SYNC that it confirms
---   fup-here                a FUP next to a frame confirms that one
+--   each_known              each frame of a row is a SYNC, or a FUP next to the SYNC that it confirms
+--   fup_here                a FUP next to a frame confirms that one
 --   row_before              what was sent before is a row too
---   whole-time              the seconds of a SYNC and its FUP's OVS and nanoseconds are the whole time
---   sync-read, fup-read     the frames are read as the values sent
---   never-rise              nothing in a row was sent after what follows it
+--   whole_time              the seconds of a SYNC and its FUP's OVS and nanoseconds are the whole time
+--   sync_read, fup_read     the frames are read as the values sent
+--   never_rise              nothing in a row was sent after what follows it
 -- Assumes nothing.
 use Prim.Native.Nat.{ℕ, suc, ◌+◌, ◌-◌, ◌*◌, ◌%◌, ◌≤◌, ◌<◌}
 use mathlib.Core.Path.{◌≡◌, refl, sym, ap, ◌∙◌, subst}

@@ -1,9 +1,9 @@
 -- What was sent and heard since a moment. No contract cites this file.
 --   front        what was sent since a moment is the front of all that was sent
 --   adds         what a call adds to what was heard since a moment
---   none-since   nothing was heard since a moment that is to come
+--   none_since   nothing was heard since a moment that is to come
 --   found        the call that handed in a copy
---   row-since    the copies heard since a moment are of a row
+--   row_since    the copies heard since a moment are of a row
 -- Assumes nothing.
 use Prim.Native.Nat.{ℕ, ◌+◌, ◌≤◌, ◌<◌}
 use mathlib.Core.Path.{◌≡◌, refl, sym, ap, ◌∙◌, subst}

@@ -1,11 +1,11 @@
 -- What a call of the slave's node does to the record of the domain. No contract cites this file.
---   slave-is-good    the slave's node is good
---   slave-settings   its record of the domain holds the settings given
---   heard-as         a heard frame is read, and of the domain (`HeardAs`)
---   unheard-keeps    a call that hands in no heard frame leaves the record
---   heard-step       a heard frame is refused by 1, or its record makes the step (`Step`)
---   heard-in-time    in range and in order it makes the step, and answers the step's number
---   kept-before      the kept reading is not after a reading that the scale allows
+--   slave_is_good    the slave's node is good
+--   slave_settings   its record of the domain holds the settings given
+--   heard_as         a heard frame is read, and of the domain (`HeardAs`)
+--   unheard_keeps    a call that hands in no heard frame leaves the record
+--   heard_step       a heard frame is refused by 1, or its record makes the step (`Step`)
+--   heard_in_time    in range and in order it makes the step, and answers the step's number
+--   kept_before      the kept reading is not after a reading that the scale allows
 -- Assumes nothing.
 use Prim.Native.Nat.{ℕ, ◌%◌, ◌≤◌, ◌<◌}
 use mathlib.Core.Path.{◌≡◌, refl, sym, ap, subst, ◌∙◌}

@@ -1,7 +1,7 @@
 -- Demand 3, its last sentence in the words of paper 02, request 5. No contract cites this file.
---   in-row-zero         with H 0 a SYNC is in a row if it arrives L or more after the moment
---   spaced-in-row       SYNC arrivals at most L apart, H of them L or more after the moment, are a row
---   each-spaced-taken   so each confirmed pair after them is taken
+--   in_row_zero         with H 0 a SYNC is in a row if it arrives L or more after the moment
+--   spaced_in_row       SYNC arrivals at most L apart, H of them L or more after the moment, are a row
+--   each_spaced_taken   so each confirmed pair after them is taken
 -- Assumes nothing.
 use Prim.Native.Nat.{ℕ, zero, suc, ◌+◌, ◌≤◌, ◌<◌}
 use mathlib.Core.Path.{◌≡◌, refl, sym, ap, subst}

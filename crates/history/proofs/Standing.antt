@@ -1,6 +1,6 @@
 -- What a master sends in its domain over a history is a row. No contract cites this file.
 --   standing       the frames of the domain follow one another as a row, whatever the history
---   sent-past      where readings never fall, each was sent at the newest one or before
+--   sent_past      where readings never fall, each was sent at the newest one or before
 -- Assumes nothing.
 use Prim.Native.Nat.{ℕ, ◌%◌, ◌≤◌}
 use mathlib.Core.Path.{◌≡◌, refl, sym, ap, ◌∙◌, subst}

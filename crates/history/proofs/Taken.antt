@@ -1,5 +1,5 @@
 -- Demand 3, its second sentence. No contract cites this file.
---   each-pair-taken   with the bus in order, each confirmed pair is taken
+--   each_pair_taken   with the bus in order, each confirmed pair is taken
 -- Assumes nothing.
 use Prim.Native.Nat.{ℕ, ◌+◌, ◌-◌, ◌≤◌}
 use mathlib.Core.Path.{◌≡◌, refl, ap, ◌∙◌}

@@ -2,26 +2,26 @@
 -- it. The laws have the names of the edits. As the demand has them, the same forms hold, so what is false is what the
 -- edit alters. Of the edits of the three bounds see `follow_up_exceeded`, `confirmation_exceeded` and `loss_exceeded`.
 -- No contract cites this file.
---   held-unaltered, over-unaltered, near-unaltered, one-unaltered, confirms-unaltered, taken-unaltered,
---   heard-unaltered
+--   held_unaltered, over_unaltered, near_unaltered, one_unaltered, confirms_unaltered, taken_unaltered,
+--   heard_unaltered
 --                                  the forms as the demand has them hold
---   copy-up-to-twice-e-false       a copy twice E late: the FUP of the SYNC 16 later is joined to it
---   set-met                        a history with a set between a SYNC, 1 ns before a full second, and its
+--   copy_up_to_twice_e_false       a copy twice E late: the FUP of the SYNC 16 later is joined to it
+--   set_met                        a history with a set between a SYNC, 1 ns before a full second, and its
 --                                  confirmation, 1 ns later, meets all of the first sentence
---   base-at-the-sync-false, ovs-dropped-false, time-set-after-the-sync-false, tied-to-the-fup-false,
---   confirmed-at-the-sync-false, counter-of-the-next-sync-false
+--   base_at_the_sync_false, ovs_dropped_false, time_set_after_the_sync_false, tied_to_the_fup_false,
+--   confirmed_at_the_sync_false, counter_of_the_next_sync_false
 --                                  it refutes these
---   never-behind-false             by the time that is E behind
---   never-ahead-false              by the time that is C ahead
---   tied-at-any-reading-false      by the time tied anew
---   clocks-met                     a history where the slave's clock is more than E behind the master's meets all
---   held-at-any-reading-false      it refutes that such times are held
---   alike-of-one                   a history within one second, where SYNC 16's pair is taken
---   all-alike-are-copied-false     SYNC 0 has its bytes
---   round-met                      a history where two pairs are taken, of counter 15 and then of 0
---   first-pair-only-false          before the second, the base is the first's
---   no-modulo-false                the second is answered 0
---   any-lists-read-false           under mode optional, other DataIDs: the first SYNC is refused
+--   never_behind_false             by the time that is E behind
+--   never_ahead_false              by the time that is C ahead
+--   tied_at_any_reading_false      by the time tied anew
+--   clocks_met                     a history where the slave's clock is more than E behind the master's meets all
+--   held_at_any_reading_false      it refutes that such times are held
+--   alike_of_one                   a history within one second, where SYNC 16's pair is taken
+--   all_alike_are_copied_false     SYNC 0 has its bytes
+--   round_met                      a history where two pairs are taken, of counter 15 and then of 0
+--   first_pair_only_false          before the second, the base is the first's
+--   no_modulo_false                the second is answered 0
+--   any_lists_read_false           under mode optional, other DataIDs: the first SYNC is refused
 -- Assumes nothing.
 use Prim.Native.Nat.{ℕ}
 use mathlib.Core.Path.{◌≡◌, refl, sym, ap, ap₂, subst, ◌∙◌}

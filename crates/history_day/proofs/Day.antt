@@ -1,10 +1,10 @@
 -- A day of a master and a slave meets what demand 3 asks: antt computes it. No contract cites this file.
---   day-held      the first sentence's hypotheses hold of it, and the slave holds a time
---   day-taken     the last sentence's hypotheses hold of it and of its last pair, but for the moment
---   day-numbers   what its calls are answered
---   day-of-one    so the time is of one SYNC
---   day-near      and as near as is said
---   day-pair      and the pair is taken
+--   day_held      the first sentence's hypotheses hold of it, and the slave holds a time
+--   day_taken     the last sentence's hypotheses hold of it and of its last pair, but for the moment
+--   day_numbers   what its calls are answered
+--   day_of_one    so the time is of one SYNC
+--   day_near      and as near as is said
+--   day_pair      and the pair is taken
 -- Assumes nothing.
 use mathlib.Core.Path.{◌≡◌, refl}
 use mathlib.Core.Bool.{true}

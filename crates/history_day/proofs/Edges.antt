@@ -2,26 +2,26 @@
 -- sending periods only equal the one, and one where they only equal the other; each also within one second, where
 -- SYNCs 16 apart are byte for byte the same. A time may be E behind, or C ahead. And the last sentence does not hold
 -- a nanosecond earlier. No contract cites this file.
---   under-exceed           the sentence gives the sentence under "exceed"
---   wrong-under            a wrong time that is held refutes the sentence under any condition that its link meets
---   follow-up-equal        16 periods equal E plus the follow-up time
---   follow-up-wrong        the slave holds a wrong time there
---   follow-up-exceeded     so the sentence is false where they need only reach that sum
---   confirmation-equal     16 periods equal E plus the confirmation time
---   confirmation-wrong     the slave holds a wrong time there
---   confirmation-exceeded  so the sentence is false where they need only reach that sum
---   follow-up-within-equal, follow-up-within-wrong, follow-up-within-exceeded,
---   confirmation-within-equal, confirmation-within-wrong, confirmation-within-exceeded
+--   under_exceed           the sentence gives the sentence under "exceed"
+--   wrong_under            a wrong time that is held refutes the sentence under any condition that its link meets
+--   follow_up_equal        16 periods equal E plus the follow-up time
+--   follow_up_wrong        the slave holds a wrong time there
+--   follow_up_exceeded     so the sentence is false where they need only reach that sum
+--   confirmation_equal     16 periods equal E plus the confirmation time
+--   confirmation_wrong     the slave holds a wrong time there
+--   confirmation_exceeded  so the sentence is false where they need only reach that sum
+--   follow_up_within_equal, follow_up_within_wrong, follow_up_within_exceeded,
+--   confirmation_within_equal, confirmation_within_wrong, confirmation_within_exceeded
 --                          the same within one second
---   anew-met               a history within one second that meets all of the first sentence
---   anew-of-one            so what is held there is of one SYNC
---   anew-wrong             its time tied to the reading at the SYNC 16 later is of none
---   behind-by-e            a time that is E behind
---   ahead-by-c             a time that is C ahead
---   loss-met               the last sentence's hypotheses hold of a pair, but for the moment of its SYNC
---   loss-one-earlier       that is a nanosecond before the moment plus L
---   loss-not-taken         and the pair is not taken
---   loss-exceeded          so the sentence is false from a nanosecond earlier on
+--   anew_met               a history within one second that meets all of the first sentence
+--   anew_of_one            so what is held there is of one SYNC
+--   anew_wrong             its time tied to the reading at the SYNC 16 later is of none
+--   behind_by_e            a time that is E behind
+--   ahead_by_c             a time that is C ahead
+--   loss_met               the last sentence's hypotheses hold of a pair, but for the moment of its SYNC
+--   loss_one_earlier       that is a nanosecond before the moment plus L
+--   loss_not_taken         and the pair is not taken
+--   loss_exceeded          so the sentence is false from a nanosecond earlier on
 -- Assumes nothing.
 use Prim.Native.Nat.{◌+◌, ◌*◌}
 use mathlib.Core.Path.{◌≡◌, refl, sym, ap, ◌∙◌}

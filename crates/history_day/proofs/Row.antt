@@ -1,18 +1,18 @@
 -- Demand 3 with the row of paper 02, request 5: antt computes a history that meets its last sentence with H 2, and two
 -- that refute the sentence where a SYNC fewer, or SYNCs further apart, would do. No contract cites this file.
---   row-met           the last sentence's hypotheses hold of the third pair
---   row-taken         so it is taken
---   row-spaced        and in the words of the request
---   row-numbers       the calls are answered 15, 15, then 0
---   row-holds         the slave holds the third SYNC's time
---   row-one-fewer     the second pair has one SYNC before it, and all else is met
---   fewer-not-taken   it is not taken
---   one-sync-fewer    so the sentence with one SYNC fewer is false
---   one-late-fewer    and so are the request's words
+--   row_met           the last sentence's hypotheses hold of the third pair
+--   row_taken         so it is taken
+--   row_spaced        and in the words of the request
+--   row_numbers       the calls are answered 15, 15, then 0
+--   row_holds         the slave holds the third SYNC's time
+--   row_one_fewer     the second pair has one SYNC before it, and all else is met
+--   fewer_not_taken   it is not taken
+--   one_sync_fewer    so the sentence with one SYNC fewer is false
+--   one_late_fewer    and so are the request's words
 --   row_apart         a pair with H 1, and one SYNC before it that came more than L earlier; all else is met
---   apart-not-taken   it is not taken
---   any-distance      so the sentence without "at most L apart" is false
---   not-spaced        and so are the request's words
+--   apart_not_taken   it is not taken
+--   any_distance      so the sentence without "at most L apart" is false
+--   not_spaced        and so are the request's words
 -- Assumes nothing.
 use mathlib.Core.Path.{◌≡◌, refl, sym, ap, ◌∙◌}
 use mathlib.Core.Bool.{true}

@@ -1,17 +1,17 @@
 -- A day within one second meets what demand 3 asks, at the bounds: antt computes it. No contract cites this file.
---   second-held     the first sentence's hypotheses hold of it, and the slave holds a time
---   second-taken    the last sentence's hypotheses hold of it and of the pair of SYNC 16, but for the moment
---   second-numbers  what its calls are answered
---   second-updates  eighteen pairs are taken
---   second-same     SYNC 16 has the bytes of SYNC 0
+--   second_held     the first sentence's hypotheses hold of it, and the slave holds a time
+--   second_taken    the last sentence's hypotheses hold of it and of the pair of SYNC 16, but for the moment
+--   second_numbers  what its calls are answered
+--   second_updates  eighteen pairs are taken
+--   second_same     SYNC 16 has the bytes of SYNC 0
 --   second-verdicts SYNC 0 is taken as no counter is known, all others by their counters
---   second-wrap     SYNC 16 comes within L of SYNC 15, its counter 0 after 15
---   second-of-one   so the time is of one SYNC
---   second-near     and as near as is said
---   second-pair     and the pair is taken
---   late-by-one     the last FUP arrives 1 ns more than the follow-up time after its SYNC
---   late-not-taken  and its pair is not taken
---   late-exceeded   so the last sentence is false for FUPs that are up to 1 ns later
+--   second_wrap     SYNC 16 comes within L of SYNC 15, its counter 0 after 15
+--   second_of_one   so the time is of one SYNC
+--   second_near     and as near as is said
+--   second_pair     and the pair is taken
+--   late_by_one     the last FUP arrives 1 ns more than the follow-up time after its SYNC
+--   late_not_taken  and its pair is not taken
+--   late_exceeded   so the last sentence is false for FUPs that are up to 1 ns later
 -- Assumes nothing.
 use Prim.Native.Nat.{◌+◌}
 use mathlib.Core.Path.{◌≡◌, refl, sym, ap, ◌∙◌}

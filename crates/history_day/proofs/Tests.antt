@@ -1,16 +1,16 @@
 -- What demand 3 asks of a history, as tests that antt computes, and what the two sentences then say. No contract
 -- cites this file.
---   linked-by   a link, from its parts
+--   linked_by   a link, from its parts
 --   fair        a history that passes the test at each of its calls is fair
---   held-met    what is gathered of the first sentence is all that it asks
---   taken-met   what is gathered of the last sentence is all that it asks, but for the row
---   taken-from  the last sentence is the one where no SYNC of the row may be earlier
---   taken-spaced  what is gathered is all that the request's words ask
+--   held_met    what is gathered of the first sentence is all that it asks
+--   taken_met   what is gathered of the last sentence is all that it asks, but for the row
+--   taken_from  the last sentence is the one where no SYNC of the row may be earlier
+--   taken_spaced  what is gathered is all that the request's words ask
 --   taken-until the last sentence is the one where FUPs may be no later
 --   all_same    lists whose sendings are the same one by one are the same
---   every-base  a base passes a test after a part of a history where it does after every part
---   never-set   a base that is unset after each part of a history was never set
---   not-of-one  a base is of no SYNC where no FUP gives its time with the SYNC before it, or no copy of that SYNC can
+--   every_base  a base passes a test after a part of a history where it does after every part
+--   never_set   a base that is unset after each part of a history was never set
+--   not_of_one  a base is of no SYNC where no FUP gives its time with the SYNC before it, or no copy of that SYNC can
 --               have come at its reading
 -- Assumes nothing.
 use Prim.Native.Nat.{ℕ, zero, suc, ◌+◌, ◌≤◌, ◌<◌}

@@ -1,3 +1,2 @@
--- What the walks of `lent_frame` have in common, and its laws.
-pub mod Walk
+-- The laws of `lent_frame`.
 pub mod Only

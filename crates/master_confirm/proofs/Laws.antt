@@ -1,7 +1,7 @@
 -- Laws of a master's confirmation. No contract cites this file.
---   refusal-keeps-confirm   a refused confirmation leaves the record as it was
---   confirm-closes          a confirmation that is not refused leaves no SYNC open
---   followed-has-room       and there was room for its FUP
+--   refusal_keeps_confirm   a refused confirmation leaves the record as it was
+--   confirm_closes          a confirmation that is not refused leaves no SYNC open
+--   followed_has_room       and there was room for its FUP
 -- Assumes nothing.
 use Prim.Native.Nat.{ℕ}
 use mathlib.Core.Path.{◌≡◌, refl}

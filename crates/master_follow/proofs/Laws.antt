@@ -1,8 +1,8 @@
 -- Laws of a FUP's time. No contract cites this file.
---   whole-exact    the whole time is the SYNC's time and the reading's advance, to the nanosecond
---   ovs-bound      OVS is at most 3 where C is in range and the SYNC's time is good
---   over-exact     what comes over of numbers of 32 bits is OVS and the nanoseconds of the whole time
---   by-follow      what a confirmation finds: 11, 12 or a FUP; `OpenFor` is told of the SYNC where it is open
+--   whole_exact    the whole time is the SYNC's time and the reading's advance, to the nanosecond
+--   ovs_bound      OVS is at most 3 where C is in range and the SYNC's time is good
+--   over_exact     what comes over of numbers of 32 bits is OVS and the nanoseconds of the whole time
+--   by_follow      what a confirmation finds: 11, 12 or a FUP; `OpenFor` is told of the SYNC where it is open
 -- Assumes nothing.
 use Prim.Native.Nat.{ℕ, ◌+◌, ◌^◌, ◌≤◌, ◌<◌}
 use mathlib.Core.Path.{◌≡◌, ap, ap₂}

@@ -1,6 +1,6 @@
 -- Laws of a master's rules. No contract cites this file.
---   due-fits       a due domain's seconds have 32 bits
---   by-due         what a domain is: not due, or due at its base's time; `DueAt` is told where it is due
+--   due_fits       a due domain's seconds have 32 bits
+--   by_due         what a domain is: not due, or due at its base's time; `DueAt` is told where it is due
 -- Assumes nothing.
 use Prim.Native.Nat.{ℕ, ◌≤◌}
 use mathlib.Core.Path.{◌≡◌, refl}

@@ -1,6 +1,6 @@
 -- Laws of a master's turn. No contract cites this file.
---   rest-keeps      a turn in which the domain is not due leaves the record as it was
---   counter-exact   on a counter below 16 the next one is one more, modulo 16
+--   rest_keeps      a turn in which the domain is not due leaves the record as it was
+--   counter_exact   on a counter below 16 the next one is one more, modulo 16
 -- Assumes nothing.
 use Prim.Native.Nat.{ℕ, ◌+◌, ◌%◌, ◌<◌}
 use mathlib.Core.Path.{◌≡◌, refl}

@@ -1,6 +1,6 @@
 -- Laws of a master's set. No contract cites this file.
---   refusal-keeps-set   a refused set leaves the record as it was
---   set-keeps-sending   a set touches no SYNC, neither an open one nor when the last was sent
+--   refusal_keeps_set   a refused set leaves the record as it was
+--   set_keeps_sending   a set touches no SYNC, neither an open one nor when the last was sent
 -- Assumes nothing.
 use Prim.Native.Nat.{ℕ}
 use mathlib.Core.Path.{◌≡◌, refl}

@@ -1,7 +1,7 @@
 -- A node that a function is given has sixteen records: what the layout of its type says.
 --   sixteen      so many
---   looked-up    the record that the code finds at a place of a domain is `record_at`'s
---   node-size    and a node has 3,216 bytes on the machine that the proofs speak of
+--   looked_up    the record that the code finds at a place of a domain is `record_at`'s
+--   node_size_lem    and a node has 3,216 bytes on the machine that the proofs speak of
 -- Assumes nothing.
 use Prim.Native.Nat.{ℕ, ◌<◌}
 use mathlib.Core.Path.{◌≡◌, refl, sym, ◌∙◌}
@@ -22,7 +22,7 @@ use Rattle.node.proofs.Node.TheLaws as declared-laws
 
 pub sixteen : (n : Node) (vs : List Val) → Is declared.the_row n vs → length n.domains ≡ places
 sixteen n vs p =
-    sym (length-map n.domains _) ∙ (laws.owed declared.the_type declared-laws.the_laws n vs p).0.1.0.1
+    (laws.owed declared.the_type declared-laws.the_laws n vs p).0.1.0.1
 
 pub looked_up :
     (n : Node) (vs : List Val) → Is declared.the_row n vs → (at : ℕ) (other : Domain) → at < places →

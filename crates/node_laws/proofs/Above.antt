@@ -1,5 +1,5 @@
 -- 4 "domain above 15". No contract cites this file.
---   domain-above   on every reachable node a read, a set or a confirmation of a domain above 15 is answered by 4, if
+--   domain_above   on every reachable node a read, a set or a confirmation of a domain above 15 is answered by 4, if
 --                  not by 1
 -- Assumes nothing.
 use Prim.Native.Nat.{ℕ, ◌%◌, ◌≤◌}

@@ -1,6 +1,6 @@
 -- Demand 2 for a node: "an accepted frame with a right check byte, if it has one, and zero reserved bits is written
 -- back from its values byte for byte". No contract cites this file.
---   accepted-back   a frame whose number is 0 reads as values, which are so written back; on every node
+--   accepted_back   a frame whose number is 0 reads as values, which are so written back; on every node
 -- Assumes nothing.
 use Prim.Native.Nat.{ℕ}
 use mathlib.Core.Path.{◌≡◌, refl, sym, ap, ◌∙◌}

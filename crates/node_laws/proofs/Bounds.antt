@@ -1,13 +1,13 @@
 -- The bounds of the paper, on a good record. No contract cites this file.
---   base-within          a base holds a time that can be received or set
---   received-within      a slave's base holds a time that can be received
---   set-within           a master's base holds a time that can be set
---   base-before          a base's reading is at most the kept one
---   read-within          a read shows a time that can be read
---   time-exact-here      a base's time at t is its time plus t minus its reading, to the nanosecond
---   sent-within          what was sent last is as `SentWithin` says, whatever the role
---   next-counter-within  the counter that is next is below 16
---   by-followed          the FUP of a confirmation is one of a master's open SYNC, at most C old
+--   base_within          a base holds a time that can be received or set
+--   received_within      a slave's base holds a time that can be received
+--   set_within           a master's base holds a time that can be set
+--   base_before          a base's reading is at most the kept one
+--   read_within          a read shows a time that can be read
+--   time_exact_here      a base's time at t is its time plus t minus its reading, to the nanosecond
+--   sent_within_lem          what was sent last is as `SentWithin` says, whatever the role
+--   next_counter_within  the counter that is next is below 16
+--   by_followed          the FUP of a confirmation is one of a master's open SYNC, at most C old
 --   ovs_here             whose OVS is at most 3
 --   call_ovs_within      so that the OVS of a call's is
 --   follow_exact         and its time is the SYNC's time plus the reading's advance

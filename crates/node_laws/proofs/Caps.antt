@@ -1,14 +1,14 @@
 -- The caps of the calls' definitions are the identity on every reachable node. No contract cites this file.
---   jump-leads     of two counters below 16, the jump is the one number below 16 that leads from one to the other
---   held-before    on a good record, a reading that it holds is not after the kept one
+--   jump_leads     of two counters below 16, the jump is the one number below 16 that leads from one to the other
+--   held_before    on a good record, a reading that it holds is not after the kept one
 --   joined_moved   and where a FUP joins the open pair of a base that is set, D is the difference itself
 --   frame_moved    so that a frame that is answered by a D is answered by it
---   shown-exact    the time that a read shows is the base's plus t minus its reading
---   sent-exact     and so is that of a SYNC
---   caps-exact     each cap, for every reachable node
---   bench-span     the hypotheses can be met: the bench's slave holds a reading, which is not after the kept one
---   bench-answer   and after one more SYNC its FUP is answered by a D
---   bench-moved    which is the difference itself
+--   shown_exact    the time that a read shows is the base's plus t minus its reading
+--   sent_exact     and so is that of a SYNC
+--   caps_exact     each cap, for every reachable node
+--   bench_span     the hypotheses can be met: the bench's slave holds a reading, which is not after the kept one
+--   bench_answer   and after one more SYNC its FUP is answered by a D
+--   bench_moved    which is the difference itself
 -- Assumes nothing.
 use Prim.Native.Nat.{ℕ, ◌+◌, ◌-◌, ◌%◌, ◌≤◌, ◌<◌}
 use mathlib.Core.Path.{◌≡◌, refl, sym, ap, ◌∙◌, subst}

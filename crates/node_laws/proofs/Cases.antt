@@ -1,5 +1,5 @@
 -- P1 to P12 of the paper hold of the definitions. No contract cites this file.
---   proved-cases    every case's answers are the expected ones: antt computes them
+--   proved_cases    every case's answers are the expected ones: antt computes them
 -- Assumes nothing.
 use mathlib.Core.Path.{refl}
 use Rattle.round.specs.Round.{goes}

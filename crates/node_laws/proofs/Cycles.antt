@@ -1,11 +1,11 @@
 -- Laws of the main cycle's round. No contract cites this file.
---   due-count      the number of frames of a round is that of the due domains, at most S
---   round-each     what holds of the frame of each record that sends holds of each frame of the round
---   pasted-whole   they are written one after another, and the bytes beyond them stay
---   cycle-whole    a main cycle that is not refused counts and writes them so
+--   due_count      the number of frames of a round is that of the due domains, at most S
+--   round_each     what holds of the frame of each record that sends holds of each frame of the round
+--   pasted_whole   they are written one after another, and the bytes beyond them stay
+--   cycle_whole    a main cycle that is not refused counts and writes them so
 --   addressed      a frame names the domain of its values
---   given-here     the frames that are cut from the buffer are those of the round
---   cycle-given    so are those that a main cycle gives that is not refused
+--   given_here     the frames that are cut from the buffer are those of the round
+--   cycle_given    so are those that a main cycle gives that is not refused
 -- Assumes nothing.
 use Prim.Native.Nat.{ℕ, zero, suc, ◌+◌, ◌*◌, ◌≤◌, ◌<◌, min}
 use mathlib.Core.Path.{◌≡◌, refl, sym, ap, ◌∙◌}

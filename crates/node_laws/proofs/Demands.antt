@@ -1,7 +1,7 @@
 -- Demands 1 and 2 hold: each statement by the laws that make it up. No contract cites this file.
---   demand-one   every call answers by its tests, and a refusal leaves the node but for what 6 and 15 change, and every
+--   demand_one   every call answers by its tests, and a refusal leaves the node but for what 6 and 15 change, and every
 --                lent byte
---   demand-two   what is sent is read back, and what is accepted is written back
+--   demand_two   what is sent is read back, and what is accepted is written back
 -- Assumes nothing.
 use Rattle.node_queue.proofs.Laws.{queue_refusal_keeps}
 use Rattle.node_laws.specs.Demands.{DemandOne, DemandTwo}

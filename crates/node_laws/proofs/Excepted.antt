@@ -1,9 +1,9 @@
 -- Paper 02, request 5: the exceptions to "state stays", on every node. No contract cites this file.
---   frames-only     a call answered 6 or 15 is a frame call
---   six-keeps       a frame under 6 sets the row to 0 if it is not complete, and changes nothing else
---   fifteen-keeps   a frame under 15 becomes the last SYNC and joins the row, its reading is kept, and nothing else
+--   frames_only     a call answered 6 or 15 is a frame call
+--   six_keeps       a frame under 6 sets the row to 0 if it is not complete, and changes nothing else
+--   fifteen_keeps   a frame under 15 becomes the last SYNC and joins the row, its reading is kept, and nothing else
 --                   changes
---   h-zero-keeps    where H is 0 a refused call leaves the node as it was, and none is answered 15
+--   h_zero_keeps    where H is 0 a refused call leaves the node as it was, and none is answered 15
 -- Assumes nothing.
 use Prim.Native.Nat.{ℕ}
 use mathlib.Core.Path.{◌≡◌, refl, sym, ap, ◌∙◌}

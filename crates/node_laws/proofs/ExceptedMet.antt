@@ -1,13 +1,13 @@
 -- The hypotheses of `six_keeps`, `fifteen_keeps`, `stale_pair` and `taken_in_row` can be met: frames for a slave with
 -- J 1, H 2, F 100 ns and L 1000 ns, and the whole node after them. No contract cites this file.
---   row-settings-good   its settings are good
---   row-reached         the node after any calls is reachable
---   fifteen-met         counters 5, 6: the second is answered 15, and the row is 1
---   six-met             counters 5, 6, 9: the third is answered 6, and the row is 0
---   six-complete-met    counters 5, 6, 7, 11: the row was complete, and nothing changes under 6
---   fifteen-open-met    counters 5, 6, 7, and 2 more than L later: 15, the row begins anew, and the pair of 7 stays
---   taken-met           counters 5, 6, 7, and the FUP of 7: it is taken
---   taken-later-met     counters 5, 6, 7 exactly L after, 11, which is refused, and the FUP of 7: it is taken
+--   row_settings_good   its settings are good
+--   row_reached         the node after any calls is reachable
+--   fifteen_met         counters 5, 6: the second is answered 15, and the row is 1
+--   six_met             counters 5, 6, 9: the third is answered 6, and the row is 0
+--   six_complete_met    counters 5, 6, 7, 11: the row was complete, and nothing changes under 6
+--   fifteen_open_met    counters 5, 6, 7, and 2 more than L later: 15, the row begins anew, and the pair of 7 stays
+--   taken_met           counters 5, 6, 7, and the FUP of 7: it is taken
+--   taken_later_met     counters 5, 6, 7 exactly L after, 11, which is refused, and the FUP of 7: it is taken
 -- Assumes nothing.
 use Prim.Native.Nat.{ℕ, ◌+◌}
 use mathlib.Core.Path.{◌≡◌, refl}

@@ -1,5 +1,5 @@
 -- A fresh node. No contract cites this file.
---   new-good   what `new` gives is good: the node of good settings, and the one beside a refusal
+--   new_good   what `new` gives is good: the node of good settings, and the one beside a refusal
 -- Assumes nothing.
 use Prim.Native.Nat.{ℕ, zero, suc, ◌+◌, ◌<◌}
 use mathlib.Core.Path.{◌≡◌, refl, ◌∙◌, ap}

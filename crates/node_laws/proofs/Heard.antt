@@ -1,5 +1,5 @@
 -- The SYNCs that a domain heard, and what its record holds of them (paper 02, request 5). No contract cites this file.
---   heard-held   after any calls from `new` on the SYNC that a record holds is the one accepted last; while its row is
+--   heard_held   after any calls from `new` on the SYNC that a record holds is the one accepted last; while its row is
 --                not complete, so many came in a row, and if it is, the row has come: `Held`
 -- Assumes nothing.
 use Prim.Native.Nat.{ℕ, zero, suc, ◌+◌, ◌≤◌, ◌<◌}

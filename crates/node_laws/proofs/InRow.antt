@@ -1,6 +1,6 @@
 -- Paper 02, request 5: before any pair is taken a row is complete. No contract cites this file.
---   taken-in-row   a FUP that is taken is of the SYNC accepted last, and by then H came in a row
---   stale-pair     a pair that 15 leaves open is older than F: no FUP joins it
+--   taken_in_row   a FUP that is taken is of the SYNC accepted last, and by then H came in a row
+--   stale_pair     a pair that 15 leaves open is older than F: no FUP joins it
 -- Assumes nothing.
 use Prim.Native.Nat.{ℕ, ◌≤◌, ◌<◌}
 use mathlib.Core.Path.{◌≡◌, refl, sym, ap, ◌∙◌, subst}

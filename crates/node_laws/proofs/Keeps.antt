@@ -1,7 +1,7 @@
 -- Laws of the calls on one record. No contract cites this file.
---   refusal-keeps-frame-call     a refused frame leaves the record and the kept reading, but under 6 and 15
---   refusal-keeps-set-call       a refused set leaves them under every number
---   refusal-keeps-confirm-call   and a refused confirmation, which leaves the lent bytes too
+--   refusal_keeps_frame_call     a refused frame leaves the record and the kept reading, but under 6 and 15
+--   refusal_keeps_set_call       a refused set leaves them under every number
+--   refusal_keeps_confirm_call   and a refused confirmation, which leaves the lent bytes too
 -- Assumes nothing.
 use Prim.Native.Nat.{ℕ}
 use mathlib.Core.List.{List}

@@ -1,6 +1,6 @@
 -- A later reading kept: what is good of a record stays so. No contract cites this file.
 --   later        a record that is good at a kept reading is good at every later one
---   kept-stays   a kept reading that stays only grows, in its range (`Grows`)
+--   kept_stays   a kept reading that stays only grows, in its range (`Grows`)
 -- Assumes nothing.
 use Prim.Native.Nat.{ℕ, ◌≤◌}
 use mathlib.Core.Logic.{inl, inr}

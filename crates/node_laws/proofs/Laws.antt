@@ -1,11 +1,11 @@
 -- Laws of a node's calls, over the definitions that the promises cite. No contract cites this file.
---   refusal-keeps         a refused call leaves the node as it was, but under 6 and 15
---   refusal-keeps-bytes   and the lent bytes under every number; it counts no frame
+--   refusal_keeps         a refused call leaves the node as it was, but under 6 and 15
+--   refusal_keeps_bytes   and the lent bytes under every number; it counts no frame
 --   read_keeps            a read changes nothing
---   other-domains         a call for another domain leaves a record as it was, and so does a main cycle if the
+--   other_domains         a call for another domain leaves a record as it was, and so does a main cycle if the
 --                         record is not a master's
---   own-domain            a domain's answers depend on its record and the kept reading alone
---   own-after             and so do its record and the kept reading after the call
+--   own_domain            a domain's answers depend on its record and the kept reading alone
+--   own_after             and so do its record and the kept reading after the call
 -- Assumes nothing.
 use Prim.Native.Nat.{ℕ, zero, suc, ◌%◌, ◌<◌}
 use mathlib.Core.Path.{◌≡◌, refl, sym, ap, ◌∙◌}

@@ -1,7 +1,7 @@
 -- What moves the leap of a domain, and how long it shows (paper 02, request 3). No contract cites this file.
---   leap-follows   on any node, after any calls, the leap of a domain whose base is set is that of its updates' D
---   leap-shows     after a leap and fewer than `count` updates within both thresholds its bit shows
---   leap-goes      and after `count` of them or more none does
+--   leap_follows   on any node, after any calls, the leap of a domain whose base is set is that of its updates' D
+--   leap_shows     after a leap and fewer than `count` updates within both thresholds its bit shows
+--   leap_goes      and after `count` of them or more none does
 -- Assumes nothing.
 use Prim.Native.Nat.{ℕ, zero, suc, ◌+◌, ◌*◌, ◌<◌}
 use mathlib.Core.Path.{◌≡◌, refl, sym, ap, subst, ◌∙◌}

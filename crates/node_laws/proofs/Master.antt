@@ -1,7 +1,7 @@
 -- A master's steps keep a record good. No contract cites this file.
---   set-good, set-kept           a set, taken or refused; and the kept reading only grows, in its range
---   confirm-good, confirm-kept   a confirmation likewise
---   send-good                    a turn of the main cycle
+--   set_good, set_kept           a set, taken or refused; and the kept reading only grows, in its range
+--   confirm_good, confirm_kept   a confirmation likewise
+--   send_good                    a turn of the main cycle
 -- Assumes nothing.
 use Prim.Native.Nat.{ℕ, ◌+◌, ◌%◌, ◌≤◌, ◌<◌}
 use mathlib.Core.Path.{◌≡◌, refl, sym, subst}

@@ -1,11 +1,11 @@
 -- "The call tests in the order of the numbers, as far as each concerns it": the number of a call's answer is the first
 -- of its tests that holds, else 0; on every node and every argument. No contract cites this file.
---   frame-order      a frame
---   read-order       a read
---   set-order        a set
---   cycle-order      a main cycle
---   confirm-order    a confirmation
---   new-order        `new`
+--   frame_order      a frame
+--   read_order       a read
+--   set_order        a set
+--   cycle_order      a main cycle
+--   confirm_order    a confirmation
+--   new_order        `new`
 --   order            any call
 -- Assumes nothing.
 use Prim.Native.Nat.{ℕ, ◌+◌, ◌%◌}

@@ -1,8 +1,8 @@
 -- A receive queue on any node, and on a reachable one. No contract cites this file.
---   queue-order     its number is that of the first of its tests, in the order 12, 2
---   queue-calls     its frame calls have arguments as their types say
---   queue-reached   from a reachable node it leads to a reachable one, so that what is shown of those holds after it
---   pair-taken      P1 and P2 of the paper in one queue are taken, with 0 and 0 in a buffer of three
+--   queue_order     its number is that of the first of its tests, in the order 12, 2
+--   queue_calls     its frame calls have arguments as their types say
+--   queue_reached   from a reachable node it leads to a reachable one, so that what is shown of those holds after it
+--   pair_taken      P1 and P2 of the paper in one queue are taken, with 0 and 0 in a buffer of three
 --   pair_held       and the slave holds their time
 -- Assumes nothing.
 use Prim.Native.Nat.{ℕ, zero, suc, ◌*◌}

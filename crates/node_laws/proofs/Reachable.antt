@@ -1,15 +1,15 @@
 -- Every reachable node is good, so that what holds of good records holds of all that a node holds. No
 -- contract cites this file.
---   call-good        a call, refused or not, leaves a good node good
---   reachable-good   every reachable node is good
---   record-good      and so is each of its records
---   received-most    a received time is at most 4,294,967,298 s
---   read-most        a read time is at most 5,294,967,298 s, and has nanoseconds in range
+--   call_good        a call, refused or not, leaves a good node good
+--   reachable_good   every reachable node is good
+--   record_good      and so is each of its records
+--   received_most    a received time is at most 4,294,967,298 s
+--   read_most        a read time is at most 5,294,967,298 s, and has nanoseconds in range
 --   ovs_most         a FUP's OVS is at most 3, as its two bits can hold
 --   fup_exact        and its time is that of the open SYNC plus the reading's advance, to the nanosecond
---   base-exact       a base's time at t is its time plus t minus its reading
---   sync-back        demand 2: each frame of a main cycle is read back as the values sent
---   fup-back         and so is the FUP of a confirmation
+--   base_exact       a base's time at t is its time plus t minus its reading
+--   sync_back        demand 2: each frame of a main cycle is read back as the values sent
+--   fup_back         and so is the FUP of a confirmation
 -- Assumes nothing.
 use Prim.Native.Nat.{ℕ, ◌%◌, ◌≤◌, ◌<◌}
 use mathlib.Core.Path.{◌≡◌}

@@ -1,7 +1,7 @@
 -- Demand 2 for a node: "What a master writes is read back as the same values". No contract cites this file.
---   sync-read-back   each frame of a round is a SYNC that a record sent, and is read as its values
---   fup-read-back    so is the FUP of a confirmation that is not refused
---   good-sync-back, good-fup-back   both for a good node
+--   sync_read_back   each frame of a round is a SYNC that a record sent, and is read as its values
+--   fup_read_back    so is the FUP of a confirmation that is not refused
+--   good_sync_back, good_fup_back   both for a good node
 -- Assumes nothing.
 use Prim.Native.Nat.{ℕ, ◌%◌, ◌<◌}
 use mathlib.Core.Path.{◌≡◌, refl, ap, ◌∙◌, subst}

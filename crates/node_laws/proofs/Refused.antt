@@ -1,5 +1,5 @@
 -- "A refused call returns the number and zeros; state and lent bytes stay." No contract cites this file.
---   refused-zeros   the answer to a refused call is its number and zeros, and its lent bytes are as they were
+--   refused_zeros   the answer to a refused call is its number and zeros, and its lent bytes are as they were
 -- Assumes nothing.
 use mathlib.Core.Path.{◌≡◌, refl, ap}
 use Rattle.call_read.specs.declared.ReadAnswer.{ReadAnswer}

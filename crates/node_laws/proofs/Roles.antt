@@ -1,6 +1,6 @@
 -- A domain that is no master's stays so, and a main cycle is never for it. No contract cites this file.
---   others-elsewhere    among calls in any order those that are not for a domain are for others, if it is no master's
---   others-undisturbed  so that its own calls among others are answered as they are alone
+--   others_elsewhere    among calls in any order those that are not for a domain are for others, if it is no master's
+--   others_undisturbed  so that its own calls among others are answered as they are alone
 -- Assumes nothing.
 use Prim.Native.Nat.{ℕ, ◌%◌, ◌<◌}
 use mathlib.Core.Path.{◌≡◌, sym, ap, ◌∙◌}

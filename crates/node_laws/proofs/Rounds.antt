@@ -1,12 +1,12 @@
 -- A round of the main cycle keeps sixteen good records. No contract cites this file.
---   all-later        sixteen records that are good at a kept reading are good at every later one
---   stored-good      a good record stored at its place
---   turn-good        a turn, of a domain that may send or may not
---   goes-good        any turns
---   goes-count       at most a frame for each turn, and at most as many as may still be sent
---   round-good       so the round: the records, and where the next round starts
---   count-bound      it sends at most as many frames as it may
---   count-sixteen    and at most sixteen
+--   all_later        sixteen records that are good at a kept reading are good at every later one
+--   stored_good      a good record stored at its place
+--   turn_good        a turn, of a domain that may send or may not
+--   goes_good        any turns
+--   goes_count       at most a frame for each turn, and at most as many as may still be sent
+--   round_good       so the round: the records, and where the next round starts
+--   count_bound      it sends at most as many frames as it may
+--   count_sixteen    and at most sixteen
 -- Assumes nothing.
 use Prim.Native.Nat.{ℕ, zero, suc, ◌+◌, ◌-◌, ◌%◌, ◌≤◌, ◌<◌}
 use mathlib.Core.Path.{◌≡◌, refl, ◌∙◌}

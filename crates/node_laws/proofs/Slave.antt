@@ -1,7 +1,7 @@
 -- A frame call on one record. No contract cites this file.
---   frame-good    it leaves a good record good, at the reading kept after it
---   frame-kept    which is no earlier than the one before, and in range if that one was
---   pair-before   the pair of the last SYNC is no later than the reading kept
+--   frame_good    it leaves a good record good, at the reading kept after it
+--   frame_kept    which is no earlier than the one before, and in range if that one was
+--   pair_before   the pair of the last SYNC is no later than the reading kept
 -- Assumes nothing.
 use Prim.Native.Nat.{ℕ, ◌+◌, ◌≤◌, ◌<◌}
 use mathlib.Core.Path.{◌≡◌, refl, sym, ap, subst}

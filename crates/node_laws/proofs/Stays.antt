@@ -1,10 +1,10 @@
 -- What every call keeps of every record, refused or not. No contract cites this file.
---   call-keeps      a relation between a record before and after that each step keeps, every call keeps; a set, a main
+--   call_keeps      a relation between a record before and after that each step keeps, every call keeps; a set, a main
 --                   cycle or a confirmation (`set_call_keeps` and so on), if each step of a master keeps it
 --   base_stays      a base once set stays set, after a call
---   bases-stay      and after calls, however many
---   settings-stay   no call changes the settings in a record
---   syncs-stay      nor S
+--   bases_stay      and after calls, however many
+--   settings_stay   no call changes the settings in a record
+--   syncs_stay      nor S
 -- Assumes nothing.
 use Prim.Native.Nat.{ℕ, zero, suc, ◌%◌}
 use mathlib.Core.Path.{◌≡◌, refl, ◌∙◌}

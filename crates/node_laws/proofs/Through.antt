@@ -1,8 +1,8 @@
 -- "A domain's answers don't depend on calls for other domains, save through number 1 and, for masters, through S and
 -- the round." No contract cites this file.
---   through-one       a call's answer depends on the kept reading through number 1 alone
---   save-number-one   so that calls for other domains, however many, change a domain's answer through number 1 alone
---   cycle-own         a main cycle leaves each record as it was, or as its own SYNC makes it
+--   through_one       a call's answer depends on the kept reading through number 1 alone
+--   save_number_one   so that calls for other domains, however many, change a domain's answer through number 1 alone
+--   cycle_own         a main cycle leaves each record as it was, or as its own SYNC makes it
 -- Assumes nothing.
 use Prim.Native.Nat.{ℕ, ◌%◌}
 use mathlib.Core.Path.{◌≡◌, refl, ap, ◌∙◌}

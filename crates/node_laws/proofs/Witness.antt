@@ -1,14 +1,14 @@
 -- The hypotheses of the laws of reachable nodes can be met: the bench's node after its seven calls is
 -- reachable, its slave holds a received time, and its master has sent and confirmed; another master's FUP has
 -- the greatest OVS. No contract cites this file.
---   is-call        a call that passes the test has arguments as their types say
---   are-calls      and so have calls one after another
+--   is_call        a call that passes the test has arguments as their types say
+--   are_calls      and so have calls one after another
 --   reaches        calls one after another lead from a reachable node to a reachable one
---   bench-reached  the node after the seven calls of P1 to P7 is reachable
---   bench-slave    its domain 1 is a slave
---   bench-held     that holds the time of its pair, at its SYNC's reading
---   slow-reached   a master with C 3 s has sent a SYNC of 999,999,999 ns
---   ovs-three      whose FUP, confirmed 3 s later, has OVS 3
+--   bench_reached  the node after the seven calls of P1 to P7 is reachable
+--   bench_slave    its domain 1 is a slave
+--   bench_held     that holds the time of its pair, at its SYNC's reading
+--   slow_reached   a master with C 3 s has sent a SYNC of 999,999,999 ns
+--   ovs_three      whose FUP, confirmed 3 s later, has OVS 3
 -- Assumes nothing.
 use Prim.Native.Nat.{ℕ}
 use mathlib.Core.Path.{◌≡◌, refl}

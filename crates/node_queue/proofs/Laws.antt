@@ -1,9 +1,9 @@
 -- What the promise of `on_queue` says, in the request's words. No contract cites this file.
---   queue-zero            a queue with room for its numbers, at most 32 readings and eight bytes for each is taken
---   queue-stays           the bytes beyond the readings are as they were
---   queue-numbers         the byte at place i is the number of frame call i on the node after the i calls before it
---   queue-refusal-keeps   a refused queue leaves the node and every byte as they were
---   queue-one             a queue of one frame is the frame call
+--   queue_zero            a queue with room for its numbers, at most 32 readings and eight bytes for each is taken
+--   queue_stays           the bytes beyond the readings are as they were
+--   queue_numbers         the byte at place i is the number of frame call i on the node after the i calls before it
+--   queue_refusal_keeps   a refused queue leaves the node and every byte as they were
+--   queue_one             a queue of one frame is the frame call
 -- Assumes nothing.
 use Prim.Native.Nat.{ℕ, zero, suc, ◌+◌, ◌*◌, ◌≤◌, ◌<◌}
 use mathlib.Core.Path.{◌≡◌, refl, ap, ◌∙◌}

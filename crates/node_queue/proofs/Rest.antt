@@ -1,8 +1,8 @@
 -- What is left of a queue decides it: the invariant of `on_queue`, kept by a frame.
 --   Rest         what is left of the queue gives what all of it gives
---   calls-left   the frame call at a place, and then the calls behind it
+--   calls_left   the frame call at a place, and then the calls behind it
 --   onward       what is left gives it still after one frame
---   at-end       so that with none left the queue is taken
+--   at_end       so that with none left the queue is taken
 -- Assumes nothing.
 use Prim.Native.Nat.{ℕ, ◌+◌, ◌*◌, ◌<◌}
 use mathlib.Core.Path.{◌≡◌, sym, ap, ◌∙◌}

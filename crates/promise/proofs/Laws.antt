@@ -1,5 +1,5 @@
 -- Laws of `OnlyOne`. No contract cites this file.
---   equation-only   a promise that is an equation, `r ≡ d`, leaves one result
+--   equation_only   a promise that is an equation, `r ≡ d`, leaves one result
 -- Assumes nothing.
 use mathlib.Core.Path.{◌≡◌, ◌∙◌, sym}
 use Rattle.promise.specs.Only.{OnlyOne}

@@ -1,6 +1,6 @@
 -- Laws of lists that the kit's libraries do not have, which proofs share. No contract cites this file.
 --   get_d_any         what stands at a place that is there does not depend on the stand-in
---   take-replicate   the first of equal elements
+--   take_replicate   the first of equal elements
 -- Assumes nothing.
 use Prim.Native.Nat.{ℕ, zero, suc, ◌≤◌, ◌<◌}
 use mathlib.Core.Path.{◌≡◌, refl, ap}

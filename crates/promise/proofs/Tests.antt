@@ -1,6 +1,6 @@
 -- Laws of tests, which proofs share. No contract cites this file.
 --   either        what holds of both branches of a test holds of what the test picks
---   either-told   so does what holds of each branch where the test says so
+--   either_told   so does what holds of each branch where the test says so
 --   both          two tests that hold together hold each
 --   neither       two tests of which none holds each do not
 --   refuted       a test that cannot hold says no

@@ -1,11 +1,11 @@
 -- What the words of a record say is the record. No contract cites this file.
---   pairing-back .. sending-back   a part's words, with room for the bytes beside them
+--   pairing_back .. sending_back   a part's words, with room for the bytes beside them
 --   frame_back                     the first eight words of a state
---   state-back                     all of them
+--   state_back                     all of them
 --   base_back, sent_back           those of a base, and those of what was sent, in other words of a state
---   words-fit, settings-fit        any words say a record whose numbers fit
---   ids-back, settings-back        sixteen bytes, and the settings
---   number-back                    the number beside them
+--   words_fit, settings_fit        any words say a record whose numbers fit
+--   ids_back, settings_back        sixteen bytes, and the settings
+--   number_back                    the number beside them
 -- Assumes nothing.
 use Prim.Native.Nat.{ℕ, zero, suc, ◌%◌, ◌<◌}
 use mathlib.Core.Path.{◌≡◌, refl}

@@ -1,6 +1,6 @@
 -- What was packed into a word is read out of it. No contract cites this file.
 --   unpacked      a half and four bytes
---   eight-back    eight bytes
+--   eight_back    eight bytes
 -- Assumes nothing.
 use Prim.Native.Nat.{ℕ, ◌/◌, ◌%◌, ◌<◌}
 use mathlib.Core.Path.{◌≡◌}

@@ -1,5 +1,5 @@
 -- A law of the refusal numbers. No contract cites this file.
---   thirteen-unused   no case has the number 13, which is not used again (paper 02, request 8)
+--   thirteen_unused   no case has the number 13, which is not used again (paper 02, request 8)
 -- Assumes nothing.
 use mathlib.Core.Path.{◌≡◌}
 use native.Mathlib.Omega.{arith}

@@ -1,17 +1,17 @@
 -- The round serves the first S due domains, and only these: `round_of` is a round as `FirstDue` tells it, and
 -- there is no other. No contract cites this file.
---   goes-told        the turns of a round, told by the places they serve
---   round-frames     the frames of a round are those of the served, of the records as they stood before it
---   round-next       the next round starts after the last of them
---   served-apart     no place is served twice
---   served-below     each that is served is a place of the node
---   served-due       and is due
---   served-count     their number is that of the due domains, at most S
---   served-full      a due domain is passed over only where S others are served
---   round-count      as many frames are sent
---   first-due        the round is as `FirstDue` tells it
---   serves-only      the places that are served fix a round
---   first-due-only   so that no other is as `FirstDue` tells it
+--   goes_told        the turns of a round, told by the places they serve
+--   round_frames     the frames of a round are those of the served, of the records as they stood before it
+--   round_next       the next round starts after the last of them
+--   served_apart     no place is served twice
+--   served_below     each that is served is a place of the node
+--   served_due       and is due
+--   served_count     their number is that of the due domains, at most S
+--   served_full      a due domain is passed over only where S others are served
+--   round_count      as many frames are sent
+--   first_due        the round is as `FirstDue` tells it
+--   serves_only      the places that are served fix a round
+--   first_due_only   so that no other is as `FirstDue` tells it
 -- Assumes nothing.
 use Prim.Native.Nat.{ℕ, zero, suc, ◌+◌, ◌-◌, ◌%◌, ◌≤◌, ◌<◌, min}
 use mathlib.Core.Path.{◌≡◌, refl, sym, ap, ◌∙◌, subst}

@@ -1,13 +1,13 @@
 -- Laws of some places, for any test of a place. No contract cites this file.
---   each-by, each-with, each-due, each_take   what holds of each place gives what follows, of fewer places too
---   apart-due, apart-take                     fewer of places that are apart are apart
---   due-true     what `due_among` leaves is due
---   due-sum      how many it leaves
+--   each_by, each_with, each_due, each_take   what holds of each place gives what follows, of fewer places too
+--   apart_due, apart_take                     fewer of places that are apart are apart
+--   due_true     what `due_among` leaves is due
+--   due_sum      how many it leaves
 --   due_lacks    it leaves out no place that is due
 --   first_full   the first k of them leave out one that is there only where they are k
---   same-due     two tests that agree at each place leave the same
---   same-said    so does what is said there
---   said-count   where each place says one thing, as many are said as there are places
+--   same_due     two tests that agree at each place leave the same
+--   same_said    so does what is said there
+--   said_count   where each place says one thing, as many are said as there are places
 --   among        a place is one of some, or is none of them
 -- Assumes nothing.
 use Prim.Native.Nat.{ℕ, zero, suc, ◌+◌}

@@ -1,8 +1,8 @@
 -- Records served at some places, for any records, any test and any service: what a service says is said of
 -- the record as it stood before all of them, since the places are apart. No contract cites this file.
---   after-length   the records stay as many
---   after-other    a record at no served place stays
---   after-served   a record at a served place is served
+--   after_length   the records stay as many
+--   after_other    a record at no served place stays
+--   after_served   a record at a served place is served
 --   told_rests     the turn of a record that is not due changes nothing
 --   told_serves    the turn of one that is due serves it, and then what is left is told of the records after
 -- Assumes nothing.

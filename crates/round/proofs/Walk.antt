@@ -1,7 +1,7 @@
 -- Laws of the places of a round, for any number n of them. No contract cites this file.
---   next-by      the place after p is p + 1, or 0 after the last
---   walk-below   each place of a walk is one of the n
---   walk-apart   a walk of at most n turns comes to no place twice
+--   next_by      the place after p is p + 1, or 0 after the last
+--   walk_below   each place of a walk is one of the n
+--   walk_apart   a walk of at most n turns comes to no place twice
 --   walk_all     a walk of n turns comes to every place
 --   walk_sum     what is counted on it is counted over the places
 -- Assumes nothing.

@@ -1,5 +1,5 @@
 -- Laws of the settings. No contract cites this file.
---   held-twice        what is held is held as it is
+--   held_twice        what is held is held as it is
 -- Assumes nothing.
 use mathlib.Core.Path.{◌≡◌, refl}
 use Rattle.settings.specs.declared.domain_settings.DomainSettings.{DomainSettings}

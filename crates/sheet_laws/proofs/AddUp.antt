@@ -1,5 +1,5 @@
 -- The counts of a sheet add up to the records read. No contract cites this file.
---   counts-add-up   those of the lines that are printed, and the closing line's
+--   counts_add_up   those of the lines that are printed, and the closing line's
 -- What is kept at each record is `Adds`: the counts of all tallies and the others are the records read, and a domain
 -- that is no slave's has none. Assumes nothing.
 use Prim.Native.Nat.{ℕ, zero, suc, ◌+◌, ◌%◌, ◌^◌, ◌<◌}

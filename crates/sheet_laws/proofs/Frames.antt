@@ -1,6 +1,6 @@
 -- The answer to a frame, on any record. No contract cites this file.
---   frame-within   its D, if it has one, is a number of 64 signed bits
---   frame-slave    where a column counts it, the record is a slave's
+--   frame_within   its D, if it has one, is a number of 64 signed bits
+--   frame_slave    where a column counts it, the record is a slave's
 -- Assumes nothing.
 use Prim.Native.Nat.{ℕ, ◌-◌, ◌^◌, ◌<◌, min}
 use mathlib.Core.Path.{◌≡◌}

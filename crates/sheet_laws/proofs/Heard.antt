@@ -1,10 +1,10 @@
 -- The tally of a domain is that of the answers to its frames. No contract cites this file.
---   sixteen-kept      a sheet keeps its sixteen tallies
---   heard-tally       the tally after calls is the one before, with the answers that were heard
---   heard-moves       the D of these are the D of the domain's updates
---   heard-few         there are no more of them than calls
---   moves-within      each D is a number of 64 signed bits
---   moves-few         and there are no more of them than calls
+--   sixteen_kept      a sheet keeps its sixteen tallies
+--   heard_tally       the tally after calls is the one before, with the answers that were heard
+--   heard_moves       the D of these are the D of the domain's updates
+--   heard_few         there are no more of them than calls
+--   moves_within      each D is a number of 64 signed bits
+--   moves_few         and there are no more of them than calls
 -- Assumes nothing.
 use Prim.Native.Nat.{ℕ, ◌+◌, ◌%◌, ◌≤◌, ◌<◌}
 use mathlib.Core.Path.{◌≡◌, refl, sym, ap, ◌∙◌}

@@ -1,5 +1,5 @@
 -- Laws of sums over lists. No contract cites this file.
---   sum-set     one element in another's place
+--   sum_set     one element in another's place
 --   one_at_most an element is at most the sum
 --   at_set      what stands at a place after one is stored
 -- Assumes nothing.

@@ -1,6 +1,6 @@
 -- The sheet of records is that of their calls, in whatever pieces their bytes come. No contract cites this file.
---   records-read     the account after records
---   records-add-up   the counts that are printed are the records read
+--   records_read     the account after records
+--   records_add_up   the counts that are printed are the records read
 --   in_pieces        bytes in pieces are taken as if they had come at once
 -- Assumes nothing.
 use Prim.Native.Nat.{ℕ, zero, suc, ◌+◌, ◌-◌, ◌*◌, ◌/◌, ◌^◌, ◌≤◌, ◌<◌}

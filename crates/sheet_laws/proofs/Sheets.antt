@@ -1,8 +1,8 @@
 -- What a sheet says of a domain. No contract cites this file.
---   sheet-counts                  each count is how many answers are of its column
---   sheet-sum                     the sum is that of all D
---   sheet-least, sheet-greatest   the least and the greatest D are those of all D
---   sheet-none                    and they are none exactly where there is no D
+--   sheet_counts                  each count is how many answers are of its column
+--   sheet_sum                     the sum is that of all D
+--   sheet_least, sheet_greatest   the least and the greatest D are those of all D
+--   sheet_none                    and they are none exactly where there is no D
 -- Assumes nothing.
 use Prim.Native.Nat.{ℕ, ◌<◌}
 use mathlib.Core.Path.{◌≡◌, refl, sym, ap, ◌∙◌}

@@ -1,9 +1,9 @@
 -- Calls that meet the hypotheses of the laws, computed: six frames of the bench's slave, three SYNCs with their FUPs.
 -- No contract cites this file.
---   moves-met    two D
---   spread-met   the least D is -5 and the greatest 7
---   sum-met      their sum is 2
---   line-met     and the sheet is `1 3 3 0 0 0 0 0 -5 7 2` and `other 0`
+--   moves_met    two D
+--   spread_met   the least D is -5 and the greatest 7
+--   sum_met      their sum is 2
+--   line_met     and the sheet is `1 3 3 0 0 0 0 0 -5 7 2` and `other 0`
 -- Assumes nothing.
 use Prim.Native.Nat.{ℕ}
 use mathlib.Core.Path.{◌≡◌, refl}

@@ -1,5 +1,5 @@
 -- The least and the greatest of D. No contract cites this file.
---   least-of, greatest-of   a spread of D has the least of them and the greatest
+--   least_of, greatest_of   a spread of D has the least of them and the greatest
 --   none_of                 and is none exactly where there is no D
 -- The two differ in which of two numbers they pick (`Picks`). Assumes nothing.
 use Prim.Native.Nat.{ℕ}

@@ -1,8 +1,8 @@
 -- The tally of one domain after answers, one after another. No contract cites this file.
---   counted-length, all-length   it keeps its seven counts
---   counted-total                an answer that a column counts makes the seven one more
---   all-counts                   each count rises by how many answers are of its column
---   all-sum, all-spread          the sum and the spread are those of the answers' D
+--   counted_length, all-length   it keeps its seven counts
+--   counted_total                an answer that a column counts makes the seven one more
+--   all_counts                   each count rises by how many answers are of its column
+--   all_sum, all_spread          the sum and the spread are those of the answers' D
 -- Assumes nothing.
 use Prim.Native.Nat.{ℕ, ◌+◌, ◌-◌, ◌^◌, ◌≤◌, ◌<◌}
 use mathlib.Core.Path.{◌≡◌, refl, sym, ap, ◌∙◌}

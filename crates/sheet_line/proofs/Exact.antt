@@ -1,6 +1,6 @@
 -- What a line says of a sum. No contract cites this file.
---   told-exact   a sum inside signed 64 bits is printed as itself
---   over-told    another is printed as `over`
+--   told_exact   a sum inside signed 64 bits is printed as itself
+--   over_told    another is printed as `over`
 -- Assumes nothing.
 use Prim.Native.Nat.{suc, ◌-◌, ◌^◌}
 use mathlib.Core.Path.{◌≡◌, ap}

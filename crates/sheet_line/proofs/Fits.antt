@@ -1,7 +1,7 @@
 -- How many bytes the lines of the sheet have at most, so that a buffer of 65,536 bytes takes them whole. No contract
 -- cites this file.
---   line-fits    a line has at most 234
---   sheet-fits   the sheet, 16 lines and the closing one, at most 3,771
+--   line_fits    a line has at most 234
+--   sheet_fits   the sheet, 16 lines and the closing one, at most 3,771
 -- Assumes nothing.
 use Prim.Native.Nat.{ℕ, zero, suc, ◌*◌, ◌≤◌}
 use mathlib.Core.List.{List, [], ◌∷◌, ◌++◌}

@@ -1,8 +1,8 @@
 -- Bytes in records of 20. No contract cites this file.
---   first-record   20 bytes or more begin with a record
+--   first_record   20 bytes or more begin with a record
 --   no_record      fewer make none
 --   one_on         what is left from a place on, a record further
---   at-end         and where there is none
+--   at_end         and where there is none
 -- Assumes nothing.
 use Prim.Native.Nat.{ℕ, suc, ◌+◌, ◌-◌, ◌/◌, ◌≤◌, ◌<◌}
 use mathlib.Core.Path.{◌≡◌, ap, ◌∙◌}

@@ -1,9 +1,9 @@
 -- Laws of a number's two halves. No contract cites this file.
 --   as_wide        two numbers of 64 bits that make n are n's
 --   wide_value     and n is what they make
---   more-plain, more-carried, more-held        so much more, in its three cases
---   gap-none, gap-plain, gap-even, gap-borrowed   what a number is more than another, in its four
---   no-high, some-high                         a number without a high half, and with one
+--   more_plain, more_carried, more_held        so much more, in its three cases
+--   gap_none, gap_plain, gap_even, gap_borrowed   what a number is more than another, in its four
+--   no_high, some_high                         a number without a high half, and with one
 -- Assumes nothing.
 use Prim.Native.Nat.{ℕ, ◌+◌, ◌-◌, ◌*◌, ◌/◌, ◌%◌, ◌^◌, ◌≤◌, ◌<◌}
 use mathlib.Core.Path.{◌≡◌}

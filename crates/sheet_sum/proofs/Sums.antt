@@ -1,7 +1,7 @@
 -- Laws of a sum. No contract cites this file.
---   goes-behind, goes-ahead   where a D goes, by its sign
---   told-plus, told-minus     what a sum tells, by which of its two numbers is more
---   sum-exact                 after fewer than 2^64 D of 64 bits the sum is their total
+--   goes_behind, goes_ahead   where a D goes, by its sign
+--   told_plus, told_minus     what a sum tells, by which of its two numbers is more
+--   sum_exact                 after fewer than 2^64 D of 64 bits the sum is their total
 --   told_over                 a sum tells `Over` exactly where it is outside signed 64 bits
 -- Assumes nothing.
 use Prim.Native.Nat.{ℕ, suc, ◌+◌, ◌-◌, ◌*◌, ◌^◌, ◌≤◌, ◌<◌}

@@ -1,10 +1,10 @@
 -- Laws of the counter check. No contract cites this file.
---   jump-exact    on counters of a frame, the jump is (new + 16 - last) modulo 16
+--   jump_exact    on counters of a frame, the jump is (new + 16 - last) modulo 16
 --   checked       what the check answers, by the verdict: `Checked`
---   row-complete  a row that is complete is H
---   row-begun     one that is not is below H
+--   row_complete  a row that is complete is H
+--   row_begun     one that is not is below H
 --   row_stays     a complete row stays where a counter is refused
---   last-stays    and so does the last SYNC with it
+--   last_stays    and so does the last SYNC with it
 -- Assumes nothing.
 use Prim.Native.Nat.{ℕ, ◌+◌, ◌-◌, ◌%◌, ◌≤◌, ◌<◌}
 use mathlib.Core.Path.{◌≡◌, refl, subst}

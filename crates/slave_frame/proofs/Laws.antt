@@ -1,5 +1,5 @@
 -- The law of a slave's frame. No contract cites this file.
---   refusal-keeps-frame   a refused frame leaves the record as it was, but under 6 and 15
+--   refusal_keeps_frame   a refused frame leaves the record as it was, but under 6 and 15
 -- Assumes nothing.
 use Prim.Native.Nat.{ℕ}
 use mathlib.Core.Path.{refl}

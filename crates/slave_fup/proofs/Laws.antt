@@ -1,6 +1,6 @@
 -- Laws of a slave's FUP. No contract cites this file.
---   refusal-keeps-fup   a refused FUP leaves the record as it was
---   fup-closes          a FUP that is not refused leaves no pair open
+--   refusal_keeps_fup   a refused FUP leaves the record as it was
+--   fup_closes          a FUP that is not refused leaves no pair open
 -- Assumes nothing.
 use mathlib.Core.Path.{◌≡◌, refl}
 use native.Mathlib.Omega.{arith}
@@ -25,7 +25,8 @@ RefusalKeeps d r = (frame_number r.answer ≡ 0 → ⊥) → r.domain ≡ d
 
 as_keeps : (j : Joined) (d : Domain) (f : Fup) → RefusalKeeps d (fup_as j d f)
 as_keeps (Refused refusal) d f = λ e. refl
-as_keeps (With p) d f = λ e. absurd (e (update_taken _ _ _ _ d.base (new_base p f)))
+as_keeps (With p) d f =
+    λ e. absurd (e (update_taken d.settings.future_threshold d.settings.past_threshold d.settings.clear_count d.leap d.base (new_base p f)))
 
 pub refusal_keeps_fup : (d : Domain) (t : VirtualLocalTime) (f : Fup) → RefusalKeeps d (fup_of d t f)
 refusal_keeps_fup d t f = as_keeps (joined_of d.settings.follow_up_time d.pairing t f) d f

@@ -1,5 +1,5 @@
 -- Laws of a FUP and its pair. No contract cites this file.
---   by-joined     what a FUP finds: 7, 8, 9, or its pair; `Joins` is told where it finds it
+--   by_joined     what a FUP finds: 7, 8, 9, or its pair; `Joins` is told where it finds it
 --   joins         a FUP that meets each test (`Joins`) finds its pair
 -- Assumes nothing.
 use Prim.Native.Nat.{ℕ, ◌≤◌}

@@ -1,8 +1,8 @@
 -- Laws of a slave's SYNC. No contract cites this file.
---   refusal-keeps_sync   a SYNC is answered 0, 6 or 15, so no other number changes its record
---   six-keeps_sync       under 6 nothing but the row changes, and that only while it is not complete
---   fifteen-keeps_sync   under 15 the SYNC becomes the last and joins the row, and nothing else changes
---   sync-keeps-base      a SYNC does not move the base, taken or refused
+--   refusal_keeps_sync   a SYNC is answered 0, 6 or 15, so no other number changes its record
+--   six_keeps_sync       under 6 nothing but the row changes, and that only while it is not complete
+--   fifteen_keeps_sync   under 15 the SYNC becomes the last and joins the row, and nothing else changes
+--   sync_keeps_base      a SYNC does not move the base, taken or refused
 --   row_zero             with H 0 a SYNC is taken or refused by the rule of paper 01
 -- Assumes nothing.
 use Prim.Native.Nat.{ℕ, ◌+◌}

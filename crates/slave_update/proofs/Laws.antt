@@ -1,7 +1,7 @@
 -- Laws of an update. No contract cites this file.
---   received-bound    a base from a pair and a FUP is at most what the paper allows
---   leap-exclusive    no D is a leap into the future and into the past
---   update-taken      an update is no refusal
+--   received_bound    a base from a pair and a FUP is at most what the paper allows
+--   leap_exclusive    no D is a leap into the future and into the past
+--   update_taken      an update is no refusal
 -- Assumes nothing.
 use Prim.Native.Nat.{ℕ, ◌≤◌}
 use mathlib.Core.Path.{◌≡◌, refl}

@@ -1,6 +1,6 @@
 -- How long a leap shows (paper 02, request 3). No contract cites this file.
---   count-one     with a count of 1 the leap after an update is paper 01's, whatever is held
---   leap-anew     what comes after a leap does not depend on what was before it
+--   count_one     with a count of 1 the leap after an update is paper 01's, whatever is held
+--   leap_anew     what comes after a leap does not depend on what was before it
 --   leap_stays    a leap shows after fewer than `count` updates within both thresholds, as many as the run says
 --   leap_clears   and after `count` of them, or more, it does not
 -- Assumes nothing.

@@ -1,6 +1,6 @@
 -- Laws of the trial's steps. No contract cites this file.
---   lent-least   at most 512 bytes are lent
---   lent-count   the first bytes of the buffer of A5s, which are lent, are so many
+--   lent_least   at most 512 bytes are lent
+--   lent_count   the first bytes of the buffer of A5s, which are lent, are so many
 --   lent_is      and A5s
 --   shown_room   there are as many once they are back, whatever they hold then
 --   shown_is     and those are what the call left

@@ -1,7 +1,7 @@
 -- What stands ahead of a place on the walk of a round, by any count f of a place, for any number of places and any
 -- test of due. No contract cites this file.
---   ahead-same     it is decided by the count of each place
---   ahead-fewer    it is less than the count of all places, if the place itself counts
+--   ahead_same     it is decided by the count of each place
+--   ahead_fewer    it is less than the count of all places, if the place itself counts
 --   ahead_longer   a longer walk that comes to the place has no more ahead of it
 --   passed_over    a round that passes a due place over serves s others ahead of it, and the next round starts behind
 --                  them: so much less is ahead

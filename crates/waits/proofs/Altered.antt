@@ -1,12 +1,12 @@
 -- The statement of `waits` as an edit has it is false, by a computed node and calls, and so is one main cycle fewer. No
 -- contract cites this file.
 --   unaltered               the form below holds as `EachSends` has it
---   five-are-few            one main cycle fewer
---   rounded-down-false      edit `rounded_down`
---   fifteen-counted-false   edit `domain_15_no_master`
---   due-masters-false       edit `masters_that_are_due`
---   refused-cycles-false    edit `refused_cycles_count`
---   due-at-first-false      edit `due_at_first_only`
+--   five_are_few            one main cycle fewer
+--   rounded_down_false      edit `rounded_down`
+--   fifteen_counted_false   edit `domain_15_no_master`
+--   due_masters_false       edit `masters_that_are_due`
+--   refused_cycles_false    edit `refused_cycles_count`
+--   due_at_first_false      edit `due_at_first_only`
 -- Assumes nothing.
 use Prim.Native.Nat.{ℕ, ◌+◌, ◌-◌, ◌/◌, ◌≤◌, ◌<◌}
 use mathlib.Core.Path.{◌≡◌, refl, sym, ◌∙◌}

@@ -1,10 +1,10 @@
 -- The hypotheses of `EachSends` can be met: the router of the request, master of sixteen domains with S 3, all of them
 -- set. No contract cites this file.
---   router-reached   its node is reachable
---   sixteen-bound    masters / S, rounded up, is 6
---   five-waited      domain 15 is due at each of five main cycles and has not sent
---   sixteen-wait     it is due at each of six, and has
---   router-sends     so the theorem says
+--   router_reached   its node is reachable
+--   sixteen_bound    masters / S, rounded up, is 6
+--   five_waited      domain 15 is due at each of five main cycles and has not sent
+--   sixteen_wait     it is due at each of six, and has
+--   router_sends     so the theorem says
 -- Assumes nothing.
 use Prim.Native.Nat.{ℕ, zero, suc, ◌+◌}
 use mathlib.Core.Path.{◌≡◌, refl}

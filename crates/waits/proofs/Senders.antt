@@ -1,5 +1,5 @@
 -- Who sends in a main cycle, by the frames that it gives. No contract cites this file.
---   completed-cycle   what a completed main cycle makes of the node
+--   completed_cycle   what a completed main cycle makes of the node
 --   senders_served    the frames that it gives name, in their order, the first S due domains from where the round stands
 --   sends_served      so a domain sends exactly if it is one of these
 -- Assumes nothing.

@@ -1,9 +1,9 @@
 -- A master that is due waits for no more main cycles than the masters divided by S, rounded up. No contract cites this
 -- file.
---   cycle-passes   a completed main cycle in which a due master does not send leaves S masters fewer ahead of it
+--   cycle_passes   a completed main cycle in which a due master does not send leaves S masters fewer ahead of it
 --   call_passes    any other call leaves as many
---   waits-most     so the completed main cycles that it waits for, times S, are fewer than the masters
---   each-sends     the theorem: `EachSends`
+--   waits_most     so the completed main cycles that it waits for, times S, are fewer than the masters
+--   each_sends     the theorem: `EachSends`
 -- Assumes nothing.
 use Prim.Native.Nat.{ℕ, ◌+◌, ◌-◌, ◌*◌, ◌%◌, ◌≤◌, ◌<◌}
 use mathlib.Core.Path.{◌≡◌, refl, sym, ap, ◌∙◌, subst}

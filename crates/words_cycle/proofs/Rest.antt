@@ -1,7 +1,7 @@
 -- What is left of a round decides it: the invariant of `go_in`, kept by a turn.
 --   Rest       what is left of the turns gives what all of them give
 --   onward     and still after one turn
---   at-end     so that with no turn left the round is done
+--   at_end     so that with no turn left the round is done
 -- Assumes nothing.
 use Prim.Native.Nat.{ℕ, zero, suc, ◌+◌}
 use mathlib.Core.Path.{◌≡◌, refl, sym, ap, ◌∙◌}

@@ -2,7 +2,7 @@
 --   Rest      what is left of the queue gives what all of it gives
 --   onward    what is left gives it still after one frame
 --   queued    the promise, by another name for the answer
---   at-end    so that with none left the queue is taken
+--   at_end    so that with none left the queue is taken
 -- Assumes nothing.
 use Prim.Native.Nat.{ℕ, ◌+◌, ◌-◌, ◌*◌, ◌<◌}
 use mathlib.Core.Path.{◌≡◌, refl, sym, ap, ◌∙◌}

@@ -1,14 +1,14 @@
 -- The words of a node say the node, and what any words say fits. No contract cites this file.
---   node-size         the words of sixteen records, and two
---   record-back       a record in the words of a node
---   syncs-back        S there
---   round-back        and the round
---   node-back         all of the node
---   words-node-fits   any words say a node that fits
+--   node_size         the words of sixteen records, and two
+--   record_back       a record in the words of a node
+--   syncs_back        S there
+--   round_back        and the round
+--   node_back         all of the node
+--   words_node_fits   any words say a node that fits
 --   held_fits         what is held of settings that fit
 --   AllFit            sixteen settings that fit
---   fresh-fits        a fresh node of such settings fits
---   new-fits          so does what `new` gives, refused or not
+--   fresh_fits        a fresh node of such settings fits
+--   new_fits          so does what `new` gives, refused or not
 -- Assumes nothing.
 use Prim.Native.Nat.{ℕ, zero, suc, ◌+◌, ◌*◌, ◌<◌}
 use mathlib.Core.Path.{◌≡◌, refl, sym, ap, subst, ◌∙◌}

@@ -1,7 +1,7 @@
 -- Each call on the words of a node is that call on the node that they say. No contract cites this file.
---   frame-answer, set_answer, confirm_answer      the answer is the node's
---   frame-node, set_node, confirm_node            the words after say the node after
---   frame-size, set_size, confirm_size            the words keep their size
+--   frame_answer, set_answer, confirm_answer      the answer is the node's
+--   frame_node, set_node, confirm_node            the words after say the node after
+--   frame_size, set_size, confirm_size            the words keep their size
 --   frame_refused, set_refused, confirm_refused   a refused call leaves every word, but for a frame's 6 and 15
 --   confirm_bytes_lem                                 the lent bytes are the node's
 --   read_answer                                   a read answers as the node; it leaves the words

@@ -1,8 +1,8 @@
 -- On the words of a node that fits, the words after a call are the words of the node after it. No contract cites this
 -- file.
---   called-words                                  the law that the three calls share
+--   called_words                                  the law that the three calls share
 --   frame_of_node, set_of_node, confirm_of_node   the words after are those of the node after
---   frame-fits, set_fits, confirm-fits            and that node fits
+--   frame_fits, set_fits, confirm_fits            and that node fits
 -- Assumes nothing.
 use Prim.Native.Nat.{ℕ, ◌%◌, ◌<◌}
 use mathlib.Core.Path.{◌≡◌, sym, ap, subst, ◌∙◌}

@@ -1,16 +1,16 @@
 -- A main cycle on the words of a node is the main cycle on the node that they say. No contract cites this file.
 --   Holds, Alike     what a turn keeps between words and a node, and what is alike of the two after turns
---   went-alike       so any turns on the two are alike
+--   went_alike       so any turns on the two are alike
 --   Says, says       that words say a node, which a turn keeps
---   went-says        so any turns on words are those on the node that they say
+--   went_says        so any turns on words are those on the node that they say
 --   next_small       where the next round starts is below 256
---   head-node        S and the round put into the words
---   cycle-answer     the answer is the node's
---   cycle-node       the words after say the node after
---   cycle-bytes      the lent bytes are the node's
---   cycle-size       the words keep their size
---   cycle-refused    a refused cycle leaves every word
---   cycle-number     its number is that of its answer
+--   head_node        S and the round put into the words
+--   cycle_answer     the answer is the node's
+--   cycle_node       the words after say the node after
+--   cycle_bytes      the lent bytes are the node's
+--   cycle_size       the words keep their size
+--   cycle_refused    a refused cycle leaves every word
+--   cycle_number     its number is that of its answer
 -- Assumes nothing.
 use Prim.Native.Nat.{ℕ, zero, suc, ◌+◌, ◌*◌, ◌%◌, ◌<◌}
 use mathlib.Core.Path.{◌≡◌, refl, sym, ap, subst, ◌∙◌}

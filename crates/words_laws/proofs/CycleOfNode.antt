@@ -1,8 +1,8 @@
 -- On the words of a node a main cycle gives the words of the node after. No contract cites this file.
---   stored-fits           a node that fits, with a record stored that fits, fits
---   turn-fits             so does a record after its turn
+--   stored_fits           a node that fits, with a record stored that fits, fits
+--   turn_fits             so does a record after its turn
 --   AreWords, are_words   that words are those of a node that fits, which a turn keeps
---   cycle-of-node         so the words after a main cycle are those of the node after
+--   cycle_of_node         so the words after a main cycle are those of the node after
 -- Assumes nothing.
 use Prim.Native.Nat.{ℕ, ◌*◌, ◌%◌, ◌<◌}
 use mathlib.Core.Path.{◌≡◌, refl, sym, ap, subst, ◌∙◌}

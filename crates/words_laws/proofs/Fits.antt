@@ -1,9 +1,9 @@
 -- A call on one record leaves its settings, its number and the parts that it does not put back, and all numbers within
 -- their types. No contract cites this file.
---   state-fits, given-fits   the record that any words say fits, and so do its settings
+--   state_fits, given_fits   the record that any words say fits, and so do its settings
 --   set_after                a set: the base and the update counter may change
---   confirm-after            a confirmation: the SYNC sent last
---   send-after               a main cycle's turn: that SYNC, and the next counter
+--   confirm_after            a confirmation: the SYNC sent last
+--   send_after               a main cycle's turn: that SYNC, and the next counter
 -- Assumes nothing.
 use Prim.Native.Nat.{ℕ, ◌<◌}
 use mathlib.Core.Path.{◌≡◌, refl}

@@ -1,6 +1,6 @@
 -- A frame on one record leaves its settings, its number and what a master holds, and all numbers within their types: a
 -- row is at most H, or as it was, and a run is below the count that clears its leap. No contract cites this file.
---   frame-after   that
+--   frame_after   that
 -- Assumes nothing.
 use Prim.Native.Nat.{ℕ, ◌+◌, ◌<◌}
 use mathlib.Core.Path.{refl, subst}

@@ -1,9 +1,9 @@
 -- On the words of a node a put gives the words of the node after. No contract cites this file.
---   frame-words   the part of a frame
---   base-words    that of a set
---   sent-words    that of a main cycle and of a confirmation
---   kept-words    the kept reading
---   head-words    and the round
+--   frame_words   the part of a frame
+--   base_words    that of a set
+--   sent_words    that of a main cycle and of a confirmation
+--   kept_words    the kept reading
+--   head_words    and the round
 -- Assumes nothing.
 use Prim.Native.Nat.{ℕ, zero, suc, ◌+◌, ◌*◌, ◌<◌}
 use mathlib.Core.Path.{◌≡◌, refl, ap, ◌∙◌}

@@ -1,11 +1,11 @@
 -- Parts of words after others were stored, and lists by a function. No contract cites this file.
---   part-before, part-behind   a part before the stored one, and one behind it, is as it was
---   part-within                a part around the stored one has it stored
---   one-before                 an element before the stored part is as it was
---   length-stored              so is the length
---   by-at                      an element of a list by a function
---   by-same                    two functions with the same values give one list
---   by-set                     and with one other value, the list with that one set
+--   part_before, part_behind   a part before the stored one, and one behind it, is as it was
+--   part_within                a part around the stored one has it stored
+--   one_before                 an element before the stored part is as it was
+--   length_stored              so is the length
+--   by_at                      an element of a list by a function
+--   by_same                    two functions with the same values give one list
+--   by_set                     and with one other value, the list with that one set
 -- Assumes nothing.
 use Prim.Native.Nat.{ℕ, zero, suc, ◌+◌, ◌-◌, ◌≤◌, ◌<◌}
 use mathlib.Core.Path.{◌≡◌, refl, sym, ap, ◌∙◌}

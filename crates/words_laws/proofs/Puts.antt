@@ -1,11 +1,11 @@
 -- The node that words say after a part of a record's state was put. No contract cites this file.
---   head-put, head-record   words before the records: all records are as they were
+--   head_put, head_record   words before the records: all records are as they were
 --   kept_put                the kept reading
---   size-put                a part put into a record's state leaves the size
---   state-put               any part of a record's state, that says the record
---   frame-put               that of a frame; `frame_put_size` for the size, and so on
---   base-put                that of a set
---   sent-put                that of a main cycle and of a confirmation
+--   size_put                a part put into a record's state leaves the size
+--   state_put               any part of a record's state, that says the record
+--   frame_put               that of a frame; `frame_put_size` for the size, and so on
+--   base_put                that of a set
+--   sent_put                that of a main cycle and of a confirmation
 -- Assumes nothing.
 use Prim.Native.Nat.{ℕ, ◌+◌, ◌≤◌, ◌<◌}
 use mathlib.Core.Path.{◌≡◌, refl, sym, ap, ◌∙◌}

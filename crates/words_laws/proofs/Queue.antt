@@ -1,8 +1,8 @@
 -- A receive queue on the words of a node is the queue on the node that they say. No contract cites this file.
---   queue-size      the words keep their size
---   queue-node      the words after say the node after
---   queue-numbers   the lent bytes are the node's
---   queue-of-node   on the words of a node that fits, the words after are those of the node after
+--   queue_size      the words keep their size
+--   queue_node      the words after say the node after
+--   queue_numbers   the lent bytes are the node's
+--   queue_of_node   on the words of a node that fits, the words after are those of the node after
 -- Assumes nothing.
 use Prim.Native.Nat.{ℕ}
 use mathlib.Core.Path.{◌≡◌, refl, ap, ◌∙◌}

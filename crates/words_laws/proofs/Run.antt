@@ -43,7 +43,7 @@ use Rattle.words_laws.proofs.Calls.{
   confirm_node,
   confirm_size,
   confirm_refused,
-  confirm_bytes,
+  confirm_bytes_lem,
 }
 use Rattle.words_laws.proofs.Cycle.{
   cycle_answer_lem,
@@ -93,7 +93,7 @@ same words size (cycle t out) is =
 same words size (confirm domain t counter out) is =
     record {
       answer = ap Confirm (confirm_answer words domain t.0 counter out);
-      bytes = λ before. confirm_bytes words domain t.0 counter out;
+      bytes = λ before. confirm_bytes_lem words domain t.0 counter out;
       node = confirm_node words domain t.0 counter out size;
       size = confirm_size words domain t.0 counter out size;
     }

@@ -1,9 +1,9 @@
 -- What a call leaves of the words: its part put back and the kept reading, or all of them as they were. No contract
 -- cites this file.
---   looked-up                                   the node's record at a place is the record of the words there
---   IsPut, put-by-frame, put-by-set, put-sent   a put that says the node with the record stored
---   stored-node                                 the words after a call say the node with the record stored
---   stored-size                                 and keep their size
+--   looked_up                                   the node's record at a place is the record of the words there
+--   IsPut, put_by_frame, put_by_set, put_sent   a put that says the node with the record stored
+--   stored_node                                 the words after a call say the node with the record stored
+--   stored_size                                 and keep their size
 -- Assumes nothing.
 use Prim.Native.Nat.{ℕ, ◌<◌}
 use mathlib.Core.Path.{◌≡◌, sym, ap, subst, ◌∙◌}

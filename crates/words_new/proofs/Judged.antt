@@ -1,6 +1,6 @@
 -- The node that is made of settings in words is that of `new_of`, and so is the number. No contract cites this file.
---   judged-number    0 where they are taken, else 14
---   judged-words     the words
+--   judged_number    0 where they are taken, else 14
+--   judged_words     the words
 -- Assumes nothing.
 use Prim.Native.Nat.{ℕ}
 use mathlib.Core.Path.{◌≡◌, refl, ap, ◌∙◌}

@@ -1,10 +1,10 @@
 -- A loop over k values of a function: what is left of them at d. No contract cites this file.
---   left-more    the one at d, and what is left behind it
---   left-none    in the end nothing
---   good-stop    one that is not good decides
---   good-on      a good one leaves it to the others
---   words-on     a record stored, and the words of those that are left
---   words-all    in the end those of all records
+--   left_more    the one at d, and what is left behind it
+--   left_none    in the end nothing
+--   good_stop    one that is not good decides
+--   good_on      a good one leaves it to the others
+--   words_on     a record stored, and the words of those that are left
+--   words_all    in the end those of all records
 -- Assumes nothing.
 use Prim.Native.Nat.{ℕ, suc, ◌+◌, ◌-◌, ◌≤◌, ◌<◌}
 use mathlib.Core.Path.{◌≡◌, sym, ap, ◌∙◌}

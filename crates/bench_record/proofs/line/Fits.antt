@@ -1,6 +1,6 @@
 -- How many bytes a line has at most. No contract cites this file.
---   shown-fits   the time and the status
---   with-fits    a line, by what its values have
+--   shown_fits   the time and the status
+--   with_fits    a line, by what its values have
 -- Assumes nothing.
 use Prim.Native.Nat.{ℕ, ◌+◌, ◌≤◌}
 use mathlib.Core.List.{List, ◌++◌}

@@ -1,7 +1,7 @@
 -- Laws of a record's call and of its end. No contract cites this file.
 --   answered      the call ensures the node, the answer and the lent bytes, and the line is of those
---   bad-stepped   a record that is known to be bad ends the run
---   call-stepped  a record that is known to ask for a call is answered
+--   bad_stepped   a record that is known to be bad ends the run
+--   call_stepped  a record that is known to ask for a call is answered
 -- Assumes nothing.
 use Prim.Native.Nat.{ℕ}
 use mathlib.Core.Path.{◌≡◌, refl, sym, subst}

@@ -1,6 +1,6 @@
 -- What `compare` tells of two times, for the proofs of `compare_parts`, `order` and `minus_parts`.
 --   ahead, behind            which case of `apart_of` holds
---   told-ahead, told-behind  what that case says of the two times
+--   told_ahead, told_behind  what that case says of the two times
 -- Assumes nothing.
 use Prim.Native.Nat.{ℕ, suc, ◌-◌, ◌≤◌, ◌<◌}
 use mathlib.Core.Path.{◌≡◌, refl, ap}

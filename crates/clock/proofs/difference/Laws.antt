@@ -1,7 +1,7 @@
 -- Laws of the difference. No contract cites this file.
---   difference-alike   D is the same against times of as many nanoseconds
---   difference-exact   D is the difference itself where 64 bits hold it
---   difference-read    as they do for any two times that can be read
+--   difference_alike   D is the same against times of as many nanoseconds
+--   difference_exact   D is the difference itself where 64 bits hold it
+--   difference_read    as they do for any two times that can be read
 -- Assumes nothing.
 use Prim.Native.Nat.{ℕ, suc, ◌+◌, ◌-◌, ◌^◌, ◌≤◌, ◌<◌}
 use mathlib.Core.Path.{◌≡◌, ap}

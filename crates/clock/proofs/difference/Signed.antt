@@ -2,7 +2,7 @@
 --   minus_one           -1 - m is the number below minus m
 --   back                and taking it from -1 again gives m
 --   tested              a test of a number's bits against 0 is a test of the number
---   not-below, below    what that test says of the number
+--   not_below, below    what that test says of the number
 -- Assumes nothing.
 use Prim.Native.Nat.{ℕ, zero, suc, ◌-◌}
 use mathlib.Core.Path.{◌≡◌, refl, ap}

@@ -1,6 +1,6 @@
 -- A node's frame call by its parts. No contract cites this file.
---   call-stored    the record looked up at a place, and what the call of that record gives, stored there
---   frame-stored   the place of the domain that the bytes name
+--   call_stored    the record looked up at a place, and what the call of that record gives, stored there
+--   frame_stored   the place of the domain that the bytes name
 -- Assumes nothing.
 use Prim.Native.Nat.{ℕ, ◌%◌}
 use mathlib.Core.Path.{◌≡◌, ap, ◌∙◌}

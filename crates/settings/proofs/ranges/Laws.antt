@@ -1,8 +1,8 @@
 -- Laws of the ranges. No contract cites this file.
---   held-good         what is held of good settings is good
---   leaps-range       what good thresholds and a good count are
---   slave-range       what good settings of a slave are, rule by rule
---   master-range      what good settings of a master are, rule by rule
+--   held_good         what is held of good settings is good
+--   leaps_range       what good thresholds and a good count are
+--   slave_range       what good settings of a slave are, rule by rule
+--   master_range      what good settings of a master are, rule by rule
 -- Assumes nothing.
 use Prim.Native.Nat.{◌≤◌, ◌<◌}
 use mathlib.Core.Path.{◌≡◌, refl}

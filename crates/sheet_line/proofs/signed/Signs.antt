@@ -1,6 +1,6 @@
 -- What D is written as, by its sign.
 --   below      a D below 0
---   not-below  another
+--   not_below  another
 -- Assumes nothing.
 use mathlib.Core.Path.{◌≡◌, refl}
 use mathlib.Core.Bool.{true, false}

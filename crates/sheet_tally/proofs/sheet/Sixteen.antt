@@ -1,6 +1,6 @@
 -- A sheet that a function is given has sixteen tallies: what the layout of its type says.
 --   sixteen     so many
---   looked-up   the tally that the code finds at a place of a domain is `tally_at`'s
+--   looked_up   the tally that the code finds at a place of a domain is `tally_at`'s
 -- Assumes nothing.
 use Prim.Native.Nat.{ℕ, ◌<◌}
 use mathlib.Core.Path.{◌≡◌, sym, ◌∙◌}

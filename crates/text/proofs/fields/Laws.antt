@@ -1,8 +1,8 @@
 -- Laws of `fields_at`, for any fields and any step. No contract cites this file.
---   fields-length   so many they are
---   fields-suc      one field more stands at the end
---   fields-take     the first of them are as many fields
---   fields-put      a field stored behind the first k of a list that are k fields
+--   fields_length   so many they are
+--   fields_suc      one field more stands at the end
+--   fields_take     the first of them are as many fields
+--   fields_put      a field stored behind the first k of a list that are k fields
 -- Assumes nothing.
 use Prim.Native.Nat.{ℕ, zero, suc, ◌+◌, ◌*◌, ◌≤◌, ◌<◌}
 use mathlib.Core.Path.{◌≡◌, refl, sym, ap, ◌∙◌}

@@ -1,5 +1,5 @@
 -- What no node takes is refused, by 14. No contract cites this file.
---   too-many-refused   with n above 16 the settings are refused: S is 0
+--   too_many_refused   with n above 16 the settings are refused: S is 0
 -- Assumes nothing.
 use Prim.Native.Nat.{ℕ}
 use mathlib.Core.Path.{◌≡◌}

@@ -1,5 +1,5 @@
 -- What no node takes is refused. No contract cites this file.
---   no-settings-refused   what an unknown code reads as is out of range
+--   no_settings_refused   what an unknown code reads as is out of range
 -- Assumes nothing.
 use mathlib.Core.Path.{◌≡◌, refl}
 use mathlib.Core.Bool.{false}

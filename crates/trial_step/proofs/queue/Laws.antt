@@ -1,5 +1,5 @@
 -- Laws of the trial's queue, each after what it stands on. No contract cites this file.
---   part-is   the part of a list that the code takes, cut off where the list ends
+--   part_is   the part of a list that the code takes, cut off where the list ends
 --   queued    the queue call ensures the node, the answer and the lent bytes, and the line is of those
 -- Assumes nothing.
 use Prim.Native.Nat.{ℕ, ◌+◌, ◌-◌, min}
