@@ -192,13 +192,14 @@ leap_shows n i cs before row d l h =
     let own = record_at n.domains i in
     let leap = leap_of own.settings.future_threshold own.settings.past_threshold d in
     ap leap_bits
-    (by_moves n i cs before row d l ∙ leap_stays _ _ _ own.leap before row d l.leap l.within h)
+    (by_moves n i cs before row d l ∙ leap_stays own.settings.future_threshold own.settings.past_threshold own.settings.clear_count own.leap before row d l.leap l.within h)
     ∙ run_unseen leap (length row)
 
 pub leap_goes : LeapGoes
 leap_goes n i cs before row d l least h =
+    let own = record_at n.domains i in
     by_moves n i cs before row d l
-    ∙ leap_clears _ _ _ (record_at n.domains i).leap before row d l.leap l.within least h
+    ∙ leap_clears own.settings.future_threshold own.settings.past_threshold own.settings.clear_count own.leap before row d l.leap l.within least h
 
 -- ---- such calls there are: the bench's slave with its first time, a leap by 501 ms, and an update by 0, with a set of
 -- the master between them; its count is 1

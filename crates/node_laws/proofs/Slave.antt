@@ -446,9 +446,10 @@ module _ (i : ℕ) (kept t : VirtualLocalTime) (d : Domain) (g : RecordGood i ke
     fup_as_lem (not_joined refusal) f o h = kept_good (number_of refusal)
     fup_as_lem (With p) f o h =
         let u = update_in d d.base (new_base p f) in
-        let below = update_below _ count_least _ _ d.leap d.base (new_base p f) in
+        let below = update_below d.settings.clear_count count_least d.settings.future_threshold d.settings.past_threshold d.leap d.base (new_base p f) in
         subst (λ (n : ℕ). RecordGood i (frame_kept n kept t) (updated_of d p f u.leap))
-        (sym (update_taken _ _ _ _ d.base (new_base p f))) (taken p f u.leap below o h)
+        (sym
+        (update_taken d.settings.future_threshold d.settings.past_threshold d.settings.clear_count d.leap d.base (new_base p f))) (taken p f u.leap below o h)
 
     kind_step : (values : Frame) → Carried values → StepGood (kind_of d t values)
     kind_step (sync s) c = sync_step s c
