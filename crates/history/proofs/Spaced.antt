@@ -120,7 +120,7 @@ module _ (k : Link) (moment : ℕ) where
   spaced_in_row (suc h) limit y [] b before spaced after enough = absurd (omega (arith, enough))
   spaced_in_row (suc h) limit y (q ∷ older) b before spaced after enough =
       by_time h y q older (leb from (on_slave k q.at)) refl b.1 spaced after before enough
-      (spaced_in_row h _ q older b.1) (spaced_in_row (suc h) _ y older b.1)
+      (spaced_in_row h (on_slave k q.at) q older b.1) (spaced_in_row (suc h) (on_slave k q.at) y older b.1)
 
 -- ---- the pairs after it
 
