@@ -90,10 +90,10 @@ counts : (a : SendAnswer) (sent : ℕ) → has_sent a ≡ true → sent + 1 ≡ 
 counts (Sent sync) sent e = refl
 counts NotDue sent e = absurd (true≢false (sym e))
 
-next_place :
+next_place_lem :
     (a : SendAnswer) (at next : ℕ) → at < places → has_sent a ≡ true → next_place places at ≡ next_after a at next
-next_place (Sent sync) at next h e = ap (next_place places) (sym (mod-eq_of_lt h))
-next_place NotDue at next h e = absurd (true≢false (sym e))
+next_place_lem (Sent sync) at next h e = ap (next_place places) (sym (mod-eq_of_lt h))
+next_place_lem NotDue at next h e = absurd (true≢false (sym e))
 
 unsent : (a : SendAnswer) → has_sent a ≡ false → NotDue ≡ a
 unsent (Sent sync) e = absurd (true≢false e)
@@ -127,6 +127,6 @@ module _ (words : List ℕ) (at sent most next : ℕ) (t : VirtualLocalTime) (ou
         (record {
           words_after_lem = p.words_after_lem;
           count = counts a sent (sym p.sends ∙ e);
-          next_one = next_place a at next b (sym p.sends ∙ e);
+          next_one = next_place_lem a at next b (sym p.sends ∙ e);
           bytes = p.bytes;
         })

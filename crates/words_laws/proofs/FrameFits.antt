@@ -54,7 +54,7 @@ use Rattle.slave_pair.specs.Pair.{user_in}
 use Rattle.slave_pair.proofs.Laws.{by_joined}
 use Rattle.slave_answer.specs.declared.FrameStep.{FrameStep}
 use Rattle.slave_update.specs.Leap.{is_future, is_past, calmer, leap_after}
-use Rattle.slave_update.specs.Update.{moved_by, update_of}
+use Rattle.slave_update.specs.Update.{new_base, moved_by, update_of}
 use Rattle.slave_sync.specs.Sync.{verdict_for, sync_as}
 use Rattle.slave_fup.specs.Fup.{fup_as, fup_of}
 use Rattle.slave_frame.specs.Step.{kind_of}
@@ -201,7 +201,9 @@ module _ (d : Domain) (g : StateFits d) (given : SettingsFit d.settings) where
               base = omega arith;
               pairing = tt;
               last = g.last;
-              leap = update_fits _ _ _ d.leap d.base _ given.count;
+              leap =
+                  update_fits d.settings.future_threshold d.settings.past_threshold d.settings.clear_count d.leap d.base
+                  (new_base p f) given.count;
               sending = g.sending;
               user = (open-fits.2, open-fits.3, v);
               updates = omega arith;
