@@ -18,7 +18,7 @@ use Rattle.domain.specs.declared.LastSync.TheVariants.{Unknown, Seen}
 use Rattle.slave_counter.specs.declared.CounterVerdict.{CounterVerdict}
 use Rattle.slave_counter.specs.declared.CounterVerdict.TheVariants.{Free, Good, NotGood}
 use Rattle.slave_counter.specs.declared.RowCheck.{RowCheck}
-use Rattle.slave_counter.specs.declared.RowCheck.TheVariants.{NotGood as not-Good, Joins, Complete}
+use Rattle.slave_counter.specs.declared.RowCheck.TheVariants.{NotGood as not_good, Joins, Complete}
 use Rattle.slave_counter.specs.Counter.{jump_of}
 use Rattle.slave_counter.specs.Row.{row_of, with_row, row_refused, checked_of}
 
@@ -28,7 +28,7 @@ jump_exact last new p q = rw (mod-eq_of_lt q, mod-eq_of_lt p)
 
 -- ---- the check, by the verdict: not good; the first of a row; one that joins it; one with which it is complete
 pub data Checked (h row : ℕ) : CounterVerdict → RowCheck → Type 0 where
-  not_joined : Checked h row NotGood (not-Good (row_refused h row))
+  not_joined : Checked h row NotGood (not_good (row_refused h row))
   begins : 0 < h → Checked h row Free (Joins 0)
   alone : h ≤ 0 → Checked h row Free (Complete h)
   joins : row + 1 < h → Checked h row Good (Joins (row + 1))
@@ -45,7 +45,7 @@ checked h row NotGood = not_joined
 -- ---- "whether the row is complete"
 
 abbrev Told : ℕ → RowCheck → Type 0
-Told h (not-Good row) = Unit {0}
+Told h (not_good row) = Unit {0}
 Told h (Joins row) = row < h
 Told h (Complete row) = row ≡ h
 

@@ -5,7 +5,7 @@ use Rattle.domain.specs.declared.LastSync.TheVariants.{Unknown, Seen}
 use Rattle.slave_counter.specs.declared.CounterVerdict.{CounterVerdict}
 use Rattle.slave_counter.specs.declared.CounterVerdict.TheVariants.{Free, Good, NotGood}
 use Rattle.slave_counter.specs.declared.RowCheck.{RowCheck}
-use Rattle.slave_counter.specs.declared.RowCheck.TheVariants.{NotGood as not-Good, Joins, Complete}
+use Rattle.slave_counter.specs.declared.RowCheck.TheVariants.{NotGood as not_good, Joins, Complete}
 
 -- ---- The row stands where the SYNC stands that it counts up to.
 abbrev pub row_of : LastSync → ℕ
@@ -28,4 +28,4 @@ row_refused h row = cond (ltb row h) 0 row
 abbrev pub checked_of : (h row : ℕ) → CounterVerdict → RowCheck
 checked_of h row Free = reached h 0
 checked_of h row Good = reached h (row + 1)
-checked_of h row NotGood = not-Good (row_refused h row)
+checked_of h row NotGood = not_good (row_refused h row)
