@@ -1,4 +1,4 @@
--- What `compare` tells of two times, for the proofs of `compare_parts`, `order` and `minus_parts`.
+-- What `compare` tells of two times. No contract cites this file.
 --   ahead, behind            which case of `apart_of` holds
 --   told_ahead, told_behind  what that case says of the two times
 -- Assumes nothing.

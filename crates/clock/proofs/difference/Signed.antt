@@ -1,4 +1,4 @@
--- Signed numbers of 64 bits, for the proofs of `minus`, `magnitude` and the thresholds.
+-- Signed numbers of 64 bits, as `minus`, `magnitude` and the thresholds have them. No contract cites this file.
 --   minus_one           -1 - m is the number below minus m
 --   back                and taking it from -1 again gives m
 --   tested              a test of a number's bits against 0 is a test of the number
