@@ -9,7 +9,7 @@ use domain::Sending;
 use refusal::Refusal;
 
 // What a confirmation finds: the time of its FUP and when its SYNC was sent, or the number by which it
-// is refused. OVS is at most 3 on every node that calls give (`ovs-most`); on another record it may be
+// is refused. OVS is at most 3 on every node that calls give (`ovs_most`); on another record it may be
 // up to 8, and is written modulo 4.
 #[derive(Drop)]
 pub enum Follow {
