@@ -26,7 +26,7 @@ use Rattle.domain.specs.declared.Domain.{Domain}
 use Rattle.slave_answer.specs.declared.FrameAnswer.TheVariants.{Refused}
 use Rattle.admission.specs.declared.Needed.{Needed}
 use Rattle.admission.specs.declared.Needed.TheVariants.{Master, Either}
-use Rattle.admission.specs.declared.Admission.TheVariants.{Admitted, Refused as not-admitted}
+use Rattle.admission.specs.declared.Admission.TheVariants.{Admitted, Refused as not_admitted}
 use Rattle.admission.specs.declared.frames.FrameAdmission.TheVariants.{Refused as refused}
 use Rattle.admission.specs.Reading.{is_good_reading}
 use Rattle.admission.specs.Admission.{is_in, admitted_of}
@@ -89,13 +89,13 @@ by_domain good = cond good another Reading
 
 not_for_lem :
     (kept t : VirtualLocalTime) (own : ℕ) (role : Role) (asked : ℕ) (needed : Needed) → (asked ≡ own → ⊥) →
-    admitted_of kept t own role asked needed ≡ not-admitted (by_domain (is_good_reading kept t))
+    admitted_of kept t own role asked needed ≡ not_admitted (by_domain (is_good_reading kept t))
 not_for_lem kept t own role asked needed n = go (is_good_reading kept t)
   where
     go :
         (good : Bool) →
-        cond good (cond (eqb asked own && is_in role needed) Admitted (not-admitted another)) (not-admitted Reading)
-        ≡ not-admitted (by_domain good)
+        cond good (cond (eqb asked own && is_in role needed) Admitted (not_admitted another)) (not_admitted Reading)
+        ≡ not_admitted (by_domain good)
     go true = rw (ne_eqb asked own n)
     go false = refl
 

@@ -28,7 +28,7 @@ use Rattle.domain.specs.declared.Pairing.TheVariants.{Open}
 use Rattle.slave_counter.specs.declared.CounterVerdict.{CounterVerdict}
 use Rattle.slave_counter.specs.declared.CounterVerdict.TheVariants.{Free, Good, NotGood}
 use Rattle.slave_counter.specs.declared.RowCheck.{RowCheck}
-use Rattle.slave_counter.specs.declared.RowCheck.TheVariants.{NotGood as not-Good, Joins, Complete}
+use Rattle.slave_counter.specs.declared.RowCheck.TheVariants.{NotGood as not_good, Joins, Complete}
 use Rattle.slave_counter.specs.Counter.{jump_of, verdict_of}
 use Rattle.slave_counter.specs.Row.{row_of, with_row, row_refused}
 use Rattle.slave_counter.proofs.Laws.{Checked, not_joined as refuses, begins, alone, joins, completes, checked}
@@ -340,7 +340,7 @@ module _ (k : Link) (moment : ℕ) where
   sync_last :
       (check : RowCheck) (d : Domain) (t : VirtualLocalTime) (v : Sync) (s : Newest) → on_slave k t < moment →
       LastOk k moment d.last s → LastOk k moment (sync_as check d t v).domain.last s
-  sync_last (not-Good row) d t v s lt ok = with_row_lem d.last row s ok
+  sync_last (not_good row) d t v s lt ok = with_row_lem d.last row s ok
   sync_last (Joins row) d t v s lt ok = inl lt
   sync_last (Complete row) d t v s lt ok = inl lt
 

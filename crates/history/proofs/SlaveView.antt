@@ -43,7 +43,7 @@ use Rattle.admission.specs.Admission.{is_in, is_for, admitted_of}
 use Rattle.admission.proofs.Laws.{good_reading, by_admission}
 use Rattle.admission.specs.declared.frames.FrameAdmission.{FrameAdmission}
 use Rattle.admission.specs.declared.frames.FrameAdmission.TheVariants.{
-  Admitted as frame-admitted,
+  Admitted as frame_admitted_one,
   Refused as frame_refused,
 }
 use Rattle.frame.specs.Values.{domain_in}
@@ -185,7 +185,7 @@ module _ (d : Domain) (t : VirtualLocalTime) where
       (a : FrameAdmission) (kept : VirtualLocalTime) (bytes : List ℕ) →
       Holds d.settings (frame_call_as a d kept t bytes).domain
   call_holds (frame_refused refusal) kept bytes = refl
-  call_holds (frame-admitted values) kept bytes =
+  call_holds (frame_admitted_one values) kept bytes =
       either StepHolds (is_taken d.settings.mode d.settings.ids bytes) (kind_holds values) refl
 
 framed_holds :
@@ -360,7 +360,7 @@ module _ (k : Link) (l : Linked k) (h : History) (a : AreCalls h) (t : VirtualLo
 module _ (P : VirtualLocalTime → Type 0) (kept t : VirtualLocalTime) (old : P kept) (new : P t) where
   frame_keeps : (f : FrameAdmission) (d : Domain) (bytes : List ℕ) → P (frame_call_as f d kept t bytes).kept
   frame_keeps (frame_refused refusal) d bytes = old
-  frame_keeps (frame-admitted values) d bytes =
+  frame_keeps (frame_admitted_one values) d bytes =
       let number = frame_number (frame_of d t bytes values).answer in
       either P (eqb number 15) new (either P (eqb number 0) new old)
 

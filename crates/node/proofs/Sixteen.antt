@@ -18,16 +18,16 @@ use Rattle.settings.specs.Node.{places}
 use Rattle.domain.specs.Records.{record_at}
 use Rattle.node.specs.declared.Node.{Node}
 use Rattle.node.specs.contracts.Node as declared
-use Rattle.node.proofs.Node.TheLaws as declared-laws
+use Rattle.node.proofs.Node.TheLaws as declared_laws
 
 pub sixteen : (n : Node) (vs : List Val) → Is declared.the_row n vs → length n.domains ≡ places
 sixteen n vs p =
-    (laws.owed declared.the_type declared-laws.the_laws n vs p).0.1.0.1
+    (laws.owed declared.the_type declared_laws.the_laws n vs p).0.1.0.1
 
 pub looked_up :
     (n : Node) (vs : List Val) → Is declared.the_row n vs → (at : ℕ) (other : Domain) → at < places →
     get_or n.domains at other ≡ record_at n.domains at
 looked_up n vs p at other h = get_d_any n.domains at other _ (omega (arith, h, sixteen n vs p))
 
-pub node_size_lem : size declared-laws.mir ≡ 3216
+pub node_size_lem : size declared_laws.mir ≡ 3216
 node_size_lem = refl

@@ -45,7 +45,7 @@ use Rattle.master_follow.specs.Follow.{whole_of, ovs_of}
 use Rattle.master_follow.proofs.Laws.{whole_exact, ovs_bound, OpenFor, by_follow}
 use Rattle.master_confirm.specs.declared.ConfirmAnswer.TheVariants.{Followed, Refused as not_followed}
 use Rattle.master_confirm.specs.Confirm.{confirm_as}
-use Rattle.call_read.specs.declared.ReadAnswer.TheVariants.{Refused as not-shown}
+use Rattle.call_read.specs.declared.ReadAnswer.TheVariants.{Refused as not_shown}
 use Rattle.call_read.specs.ReadCall.{read_as, read_call_as, read_call_of}
 use Rattle.call_confirm.specs.ConfirmCall.{confirm_call_as, confirm_call_of}
 use Rattle.node_laws.specs.Good.{HeldWithin, SentWithin, RoleGood, RecordGood}
@@ -138,7 +138,7 @@ module _ (i : ℕ) (kept : VirtualLocalTime) (d : Domain) (g : RecordGood i kept
       by_admission (λ (a : Admission). ShowsRead (read_call_as a d t)) kept t d.number d.settings.role asked
       Either (λ tested. by_base tested.in_range d.base refl) (refused _) (refused _)
     where
-      refused : (refusal : Refusal) → ShowsRead (not-shown refusal)
+      refused : (refusal : Refusal) → ShowsRead (not_shown refusal)
       refused refusal shown e = let z : ◌≡◌ {A = ℕ} 0 1 = cc in absurd (omega arith)
 
       by_base : t.0 ≤ 1000000000000000000 → (h : Held) → d.base ≡ h → ShowsRead (read_as h d t)

@@ -39,7 +39,7 @@ use Rattle.frame.specs.declared.types.FrameType.TheVariants.{
   SecuredSync,
   PlainFup,
   SecuredFup,
-  Unknown as no-type,
+  Unknown as no_type,
 }
 use Rattle.frame.specs.declared.values.Sync.{Sync}
 use Rattle.frame.specs.declared.values.Fup.{Fup}
@@ -68,7 +68,7 @@ use Rattle.admission.proofs.Laws.{Tested, good_reading, by_admission, slave_admi
 use Rattle.domain.specs.declared.Domain.{Domain}
 use Rattle.domain.specs.declared.Pair.{Pair}
 use Rattle.domain.specs.declared.Pairing.{Pairing}
-use Rattle.domain.specs.declared.Pairing.TheVariants.{Open as open-pair}
+use Rattle.domain.specs.declared.Pairing.TheVariants.{Open as open_pair}
 use Rattle.domain.specs.declared.LastSync.TheVariants.{Seen}
 use Rattle.domain.specs.Records.{record_at}
 use Rattle.slave_counter.specs.Counter.{jump_of}
@@ -91,7 +91,7 @@ use Rattle.master_rules.proofs.Laws.{by_due}
 use Rattle.master_send.specs.Send.{due_in}
 use Rattle.call_frame.specs.FrameCall.{frame_call_as, frame_call_of}
 use Rattle.call_read.specs.declared.Shown.{Shown}
-use Rattle.call_read.specs.declared.ReadAnswer.TheVariants.{Time, Refused as not-shown}
+use Rattle.call_read.specs.declared.ReadAnswer.TheVariants.{Time, Refused as not_shown}
 use Rattle.call_read.specs.ReadCall.{read_as, read_call_as, read_call_of}
 use Rattle.round.specs.Round.{goes}
 use Rattle.node.specs.declared.Node.{Node}
@@ -145,7 +145,7 @@ values_carried PlainSync bytes = omega arith
 values_carried SecuredSync bytes = omega arith
 values_carried PlainFup bytes = omega arith
 values_carried SecuredFup bytes = omega arith
-values_carried no-type bytes = tt
+values_carried no_type bytes = tt
 
 read_carried : (bytes : List ℕ) → Carried (read_of bytes)
 read_carried bytes = either Carried (eqb (length bytes) 8) (values_carried (type_of (get_or bytes 0 0)) bytes) tt
@@ -197,8 +197,8 @@ module _ (i : ℕ) (kept : VirtualLocalTime) (d : Domain) (g : RecordGood i kept
   last_here = last_as d.settings.role kept d g.role
 
   pub pair_here :
-      (p : Pair) → d.pairing ≡ open-pair p →
-      PairWithin kept d.settings.follow_up_time d.settings.hysteresis d.last (open-pair p)
+      (p : Pair) → d.pairing ≡ open_pair p →
+      PairWithin kept d.settings.follow_up_time d.settings.hysteresis d.last (open_pair p)
   pair_here p e =
       subst (PairWithin kept d.settings.follow_up_time d.settings.hysteresis d.last) e
       (pair_as d.settings.role kept d g.role)
@@ -209,7 +209,7 @@ module _ (i : ℕ) (kept : VirtualLocalTime) (d : Domain) (g : RecordGood i kept
   seen_here counter row at e = subst (LastWithin kept d.settings.hysteresis) e last_here
 
   -- the open pair is the last SYNC's, or older than F
-  paired_before : (p : Pair) → d.pairing ≡ open-pair p → p.at.0 ≤ kept.0
+  paired_before : (p : Pair) → d.pairing ≡ open_pair p → p.at.0 ≤ kept.0
   paired_before p e =
       ⊎_elim (λ own. pair_before kept d.settings.hysteresis d.last p own last_here)
       (λ old. omega (arith, old)) (pair_here p e).1
@@ -232,7 +232,7 @@ module _ (i : ℕ) (kept : VirtualLocalTime) (d : Domain) (g : RecordGood i kept
     as_slave = subst (λ (r : Role). RoleGood r kept d) is g.role
 
     pub joined_moved :
-        (old : TimeBase) (p : Pair) (f : Fup) → d.base ≡ Set old → d.pairing ≡ open-pair p → f.ovs ≤ 3 →
+        (old : TimeBase) (p : Pair) (f : Fup) → d.base ≡ Set old → d.pairing ≡ open_pair p → f.ovs ≤ 3 →
         f.nanoseconds ≤ 999999999 → MovedExact old (new_base p f) (moved_by old (new_base p f))
     joined_moved old p f set there ovs ns =
         let at = held_before p.at (of_pair p there) in
@@ -317,7 +317,7 @@ module _ (i : ℕ) (kept : VirtualLocalTime) (d : Domain) (g : RecordGood i kept
 
 module _ (i : ℕ) (kept : VirtualLocalTime) (d : Domain) (g : RecordGood i kept d) (t : VirtualLocalTime) where
   refused_shows :
-      (refusal : Refusal) (shown : Shown) → not-shown refusal ≡ Time shown → TimeOf d.base t shown.time
+      (refusal : Refusal) (shown : Shown) → not_shown refusal ≡ Time shown → TimeOf d.base t shown.time
   refused_shows refusal shown e = let no : ◌≡◌ {A = ℕ} 0 1 = cc in absurd (omega arith)
 
   pub shown_exact :

@@ -27,7 +27,7 @@ use Rattle.frame_check.specs.Check.{is_taken}
 use Rattle.settings.specs.declared.domain_settings.DomainSettings.{DomainSettings}
 use Rattle.settings.specs.declared.node_settings.NodeSettings.{NodeSettings}
 use Rattle.settings.specs.declared.node_settings.Verdict.{Verdict}
-use Rattle.settings.specs.declared.node_settings.Verdict.TheVariants.{Good as good-ones, Refused as refused-ones}
+use Rattle.settings.specs.declared.node_settings.Verdict.TheVariants.{Good as good_ones, Refused as refused_ones}
 use Rattle.settings.specs.Domain.{absent_held}
 use Rattle.settings.specs.Node.{places, judged_of}
 use Rattle.admission.specs.declared.Needed.TheVariants.{Slave}
@@ -46,7 +46,7 @@ use Rattle.slave_counter.specs.Counter.{jump_of, verdict_of}
 use Rattle.slave_counter.specs.Row.{row_of, with_row, row_refused}
 use Rattle.slave_counter.proofs.Laws.{Checked, not_joined, begins, alone, joins, completes, checked}
 use Rattle.slave_pair.specs.declared.joining.Joined.{Joined}
-use Rattle.slave_pair.specs.declared.joining.Joined.TheVariants.{With, Refused as no-pair}
+use Rattle.slave_pair.specs.declared.joining.Joined.TheVariants.{With, Refused as no_pair}
 use Rattle.slave_pair.specs.Join.{joined_of}
 use Rattle.slave_answer.specs.declared.FrameStep.{FrameStep}
 use Rattle.slave_answer.specs.Answer.{frame_number}
@@ -197,7 +197,7 @@ module _ (d : Domain) (t : VirtualLocalTime) (s : Sync) (heard : List Heard) (m 
 
 module _ (d : Domain) (kept t : VirtualLocalTime) (bytes : List ℕ) (heard : List Heard) (m : Held d heard) where
   fup_held : (joined : Joined) (f : Fup) → Held (fup_as joined d f).domain heard
-  fup_held (no-pair refusal) f = m
+  fup_held (no_pair refusal) f = m
   fup_held (With p) f = m
 
   kind_held :
@@ -308,8 +308,8 @@ records_fresh number (s ∷ rest) zero = tt
 records_fresh number (s ∷ rest) (suc i) = records_fresh (number + 1) rest i
 
 fresh_held : (v : Verdict) (s : NodeSettings) (i : ℕ) → Held (record_at (new_as v s).node.domains i) []
-fresh_held good-ones s i = records_fresh 0 s.domains i
-fresh_held (refused-ones refusal) s i = records_fresh 0 (replicate places absent_held) i
+fresh_held good_ones s i = records_fresh 0 s.domains i
+fresh_held (refused_ones refusal) s i = records_fresh 0 (replicate places absent_held) i
 
 pub heard_held :
     (s : NodeSettings) (cs : List Call) (i : ℕ) → let fresh = (new_of s).node in

@@ -19,7 +19,7 @@ use Rattle.admission.specs.declared.Admission.{Admission}
 use Rattle.admission.specs.declared.Admission.TheVariants.{Admitted, Refused as refused}
 use Rattle.admission.specs.declared.frames.FrameAdmission.{FrameAdmission}
 use Rattle.admission.specs.declared.frames.FrameAdmission.TheVariants.{
-  Admitted as frame-admitted,
+  Admitted as frame_admitted_one,
   Refused as frame_refused,
 }
 use Rattle.admission.specs.declared.Needed.TheVariants.{Master}
@@ -51,7 +51,7 @@ frame_keeps :
     (f : FrameAdmission) (d : Domain) (kept t : VirtualLocalTime) (bytes : List ℕ) →
     KeepsFrame d kept (frame_call_as f d kept t bytes)
 frame_keeps (frame_refused refusal) d kept t bytes = λ n. (refl, refl)
-frame_keeps (frame-admitted values) d kept t bytes =
+frame_keeps (frame_admitted_one values) d kept t bytes =
     λ n.
     let number = frame_number (frame_of d t bytes values).answer in
     (refusal_keeps_frame d t bytes values n, rw (ne_eqb number 15 n.2, ne_eqb number 0 n.0))

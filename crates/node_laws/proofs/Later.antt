@@ -12,7 +12,7 @@ use Rattle.settings.specs.declared.domain_settings.Role.{Role}
 use Rattle.settings.specs.declared.domain_settings.Role.TheVariants.{Absent, Slave, Master}
 use Rattle.domain.specs.declared.Domain.{Domain}
 use Rattle.domain.specs.declared.Pairing.{Pairing}
-use Rattle.domain.specs.declared.Pairing.TheVariants.{Waiting, Open as open-pair}
+use Rattle.domain.specs.declared.Pairing.TheVariants.{Waiting, Open as open_pair}
 use Rattle.domain.specs.declared.LastSync.{LastSync}
 use Rattle.domain.specs.declared.LastSync.TheVariants.{Unknown, Seen}
 use Rattle.domain.specs.declared.Sending.{Sending}
@@ -31,8 +31,8 @@ module _ (kept kept' : VirtualLocalTime) (le : kept.0 ≤ kept'.0) where
   pair_later :
       (f h : ℕ) (last : LastSync) (p : Pairing) → PairWithin kept f h last p → PairWithin kept' f h last p
   pair_later f h last Waiting w = tt
-  pair_later f h last (open-pair p) (whole, inl own) = (whole, inl own)
-  pair_later f h last (open-pair p) (whole, inr old) = (whole, inr (omega (arith, old)))
+  pair_later f h last (open_pair p) (whole, inl own) = (whole, inl own)
+  pair_later f h last (open_pair p) (whole, inr old) = (whole, inr (omega (arith, old)))
 
   sent_later : (b : Held) (next : ℕ) (s : Sending) → SentWithin kept b next s → SentWithin kept' b next s
   sent_later b next Never h = h

@@ -42,7 +42,7 @@ use Rattle.admission.specs.FrameAdmission.{read_for}
 use Rattle.domain.specs.declared.Domain.{Domain}
 use Rattle.domain.specs.declared.Pair.{Pair}
 use Rattle.domain.specs.declared.Pairing.{Pairing}
-use Rattle.domain.specs.declared.Pairing.TheVariants.{Waiting, Open as open-pair}
+use Rattle.domain.specs.declared.Pairing.TheVariants.{Waiting, Open as open_pair}
 use Rattle.domain.specs.declared.Sending.{Sending}
 use Rattle.domain.specs.declared.Sending.TheVariants.{Never, Open, Confirmed}
 use Rattle.domain.specs.Records.{record_at}
@@ -110,7 +110,7 @@ module _ (d : Domain) (kept t : VirtualLocalTime) (bytes : List ℕ) where
       (f : Fup) (pairing : Pairing) → d.pairing ≡ pairing →
       step_number (kind_of d t (fup f)) ≡ first_of (kind_tests (Values (fup f)) d t)
   fup_order f Waiting e = simp e
-  fup_order f (open-pair p) e =
+  fup_order f (open_pair p) e =
       told (is_old d.settings.follow_up_time p t) (λ old. simp (e, old))
       (λ young. told (is_other p f) (λ other. simp (e, young, other))
       (λ same. told (is_above f) (λ above. simp (e, young, same, above))

@@ -25,7 +25,7 @@ use Rattle.frame.specs.declared.types.FrameType.TheVariants.{
   SecuredSync,
   PlainFup,
   SecuredFup,
-  Unknown as no-type,
+  Unknown as no_type,
 }
 use Rattle.frame.specs.declared.values.Sync.{Sync}
 use Rattle.frame.specs.declared.values.Fup.{Fup}
@@ -124,7 +124,7 @@ values_carried PlainSync bytes h = (omega arith, word_below bytes h)
 values_carried SecuredSync bytes h = (omega arith, word_below bytes h)
 values_carried PlainFup bytes h = omega arith
 values_carried SecuredFup bytes h = omega arith
-values_carried no-type bytes h = tt
+values_carried no_type bytes h = tt
 
 read_carried : (bytes : List ℕ) → AreBytes bytes → ReadCarried (read_of bytes)
 read_carried bytes h = either ReadCarried (eqb (length bytes) 8) (values_carried (type_of (get_or bytes 0 0)) bytes h) tt

@@ -52,7 +52,7 @@ use Rattle.master_set.specs.Set.{with_time}
 use Rattle.master_send.specs.declared.SendStep.{SendStep}
 use Rattle.master_send.specs.Send.{due_in, sent_of, send_as}
 use Rattle.master_follow.specs.declared.Follow.{Follow}
-use Rattle.master_follow.specs.declared.Follow.TheVariants.{With as following, Refused as not-following}
+use Rattle.master_follow.specs.declared.Follow.TheVariants.{With as following, Refused as not_following}
 use Rattle.master_follow.specs.Follow.{follow_of}
 use Rattle.master_confirm.specs.Confirm.{confirm_as}
 use Rattle.call_frame.specs.FrameCall.{frame_call_as}
@@ -99,7 +99,7 @@ module _ (R : (before after : Domain) → Type 0) (k : KeptByMaster R) where
 
     followed_keeps : (f : Follow) (counter : ℕ) → R d (confirm_as f d counter).domain
     followed_keeps (following ovs nanoseconds at) counter = k.confirmed d at
-    followed_keeps (not-following refusal) counter = k.same d
+    followed_keeps (not_following refusal) counter = k.same d
 
     confirm_keeps :
         (a : Admission) (counter length : ℕ) → R d (confirm_call_as a d kept t counter length).domain

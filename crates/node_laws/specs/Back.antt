@@ -19,7 +19,7 @@ use Rattle.master_send.specs.Send.{send_of}
 use Rattle.domain.specs.Records.{record_at}
 use Rattle.node.specs.declared.Node.{Node}
 use Rattle.node.specs.Frame.{addressed_by}
-use Rattle.node_call.specs.Calls.{frame as frame-call, answer_to, number_in}
+use Rattle.node_call.specs.Calls.{frame as frame_call, answer_to, number_in}
 
 -- ---- frames one after another; eight bytes
 abbrev pub joined : List (List ℕ) → List ℕ
@@ -55,5 +55,5 @@ pub record FrameBack (ids : DataIds) (bytes : List ℕ) : Type 0 where
 -- ---- so each frame that is accepted
 abbrev pub AcceptedBack : Node → VirtualLocalTime → List ℕ → Type 0
 AcceptedBack n t bytes =
-    AreBytes bytes → number_in (answer_to n (frame-call t bytes)) ≡ 0 →
+    AreBytes bytes → number_in (answer_to n (frame_call t bytes)) ≡ 0 →
     FrameBack (record_at n.domains (addressed_by bytes)).settings.ids bytes

@@ -24,7 +24,7 @@ use Rattle.settings.specs.Node.{places}
 use Rattle.admission.specs.Reading.{is_good_reading}
 use Rattle.domain.specs.declared.Domain.{Domain}
 use Rattle.domain.specs.declared.Pair.{Pair}
-use Rattle.domain.specs.declared.Pairing.TheVariants.{Open as open-pair}
+use Rattle.domain.specs.declared.Pairing.TheVariants.{Open as open_pair}
 use Rattle.domain.specs.declared.LastSync.TheVariants.{Seen}
 use Rattle.domain.specs.declared.Sending.TheVariants.{Open, Confirmed}
 use Rattle.domain.specs.Records.{record_at}
@@ -45,7 +45,7 @@ use Rattle.node_laws.specs.Bounds.{TimeExact}
 pub data HeldAt (d : Domain) : VirtualLocalTime → Type 0 where
   of_base : (b : TimeBase) → d.base ≡ Set b → HeldAt d b.at
   of_last : (counter row : ℕ) (at : VirtualLocalTime) → d.last ≡ Seen counter row at → HeldAt d at
-  of_pair : (p : Pair) → d.pairing ≡ open-pair p → HeldAt d p.at
+  of_pair : (p : Pair) → d.pairing ≡ open_pair p → HeldAt d p.at
   of_open :
       (counter seconds nanoseconds : ℕ) (at : VirtualLocalTime) → d.sending ≡ Open counter seconds nanoseconds at →
       HeldAt d at
@@ -104,7 +104,7 @@ pub record CapsExact (n : Node) : Type 0 where
       read_of bytes ≡ Values (sync s) → JumpExact last s.counter
   pub joined :
       (i : ℕ) → i < places → (record_at n.domains i).settings.role ≡ Slave → (old : TimeBase) (p : Pair) →
-      (record_at n.domains i).base ≡ Set old → (record_at n.domains i).pairing ≡ open-pair p →
+      (record_at n.domains i).base ≡ Set old → (record_at n.domains i).pairing ≡ open_pair p →
       (bytes : List ℕ) (f : Fup) → read_of bytes ≡ Values (fup f) → f.nanoseconds ≤ most_nanoseconds →
       MovedExact old (new_base p f) (moved_by old (new_base p f))
   pub moved :

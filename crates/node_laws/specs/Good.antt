@@ -19,7 +19,7 @@ use Rattle.domain.specs.declared.Pairing.TheVariants.{Waiting, Open}
 use Rattle.domain.specs.declared.LastSync.{LastSync}
 use Rattle.domain.specs.declared.LastSync.TheVariants.{Unknown, Seen}
 use Rattle.domain.specs.declared.Sending.{Sending}
-use Rattle.domain.specs.declared.Sending.TheVariants.{Never, Open as open-sync, Confirmed}
+use Rattle.domain.specs.declared.Sending.TheVariants.{Never, Open as open_sync, Confirmed}
 use Rattle.domain.specs.declared.Leap.{Leap}
 use Rattle.domain.specs.declared.Leap.TheVariants.{None, Future, Past}
 use Rattle.domain.specs.Fresh.{fresh_of}
@@ -80,7 +80,7 @@ BaseStays before after = BaseSet before.base → BaseSet after.base
 
 abbrev pub SentWithin : (kept : VirtualLocalTime) → Held → (next : ℕ) → Sending → Type 0
 SentWithin kept base next Never = next ≡ 0
-SentWithin kept base next (open-sync counter seconds nanoseconds at) =
+SentWithin kept base next (open_sync counter seconds nanoseconds at) =
     BaseSet base × (counter < counters) × (next ≡ (counter + 1) % counters) × (seconds < 2 ^ 32)
     × (nanoseconds ≤ most_nanoseconds) × (at.0 ≤ kept.0)
 SentWithin kept base next (Confirmed at) = BaseSet base × (next < counters) × (at.0 ≤ kept.0)

@@ -30,7 +30,7 @@ use Rattle.admission.specs.Reading.{is_good_reading}
 use Rattle.admission.specs.Admission.{is_for}
 use Rattle.domain.specs.declared.Domain.{Domain}
 use Rattle.domain.specs.declared.Pairing.{Pairing}
-use Rattle.domain.specs.declared.Pairing.TheVariants.{Waiting, Open as open-pair}
+use Rattle.domain.specs.declared.Pairing.TheVariants.{Waiting, Open as open_pair}
 use Rattle.domain.specs.declared.Sending.{Sending}
 use Rattle.domain.specs.declared.Sending.TheVariants.{Never, Open, Confirmed}
 use Rattle.domain.specs.Records.{record_at}
@@ -86,12 +86,12 @@ not_complete h row NotGood = false
 -- ---- 7 "FUP with no open pair": "A pair older than F counts as not open"
 abbrev pub no_open_pair : (f : ℕ) → Pairing → VirtualLocalTime → Bool
 no_open_pair f Waiting t = true
-no_open_pair f (open-pair p) t = is_old f p t
+no_open_pair f (open_pair p) t = is_old f p t
 
 -- ---- 8 "FUP's counter not the pair's"
 abbrev pub not_the_pairs : Pairing → Fup → Bool
 not_the_pairs Waiting f = true
-not_the_pairs (open-pair p) f = is_other p f
+not_the_pairs (open_pair p) f = is_other p f
 
 -- ---- 10 "read of a base never set"
 abbrev pub never_set : Held → Bool

@@ -1,4 +1,4 @@
--- No two results satisfy the promise of F, as `F-only` for each public function F. No contract cites
+-- No two results satisfy the promise of F, as `F_only` for each public function F. No contract cites
 -- this file.
 -- Assumes nothing.
 use Prim.Native.Nat.{ℕ}

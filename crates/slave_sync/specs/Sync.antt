@@ -12,7 +12,7 @@ use Rattle.slave_answer.specs.declared.FrameStep.{FrameStep}
 use Rattle.slave_counter.specs.declared.CounterVerdict.{CounterVerdict}
 use Rattle.slave_counter.specs.declared.CounterVerdict.TheVariants.{Free, Good, NotGood}
 use Rattle.slave_counter.specs.declared.RowCheck.{RowCheck}
-use Rattle.slave_counter.specs.declared.RowCheck.TheVariants.{NotGood as not-Good, Joins, Complete}
+use Rattle.slave_counter.specs.declared.RowCheck.TheVariants.{NotGood as not_good, Joins, Complete}
 use Rattle.slave_counter.specs.Counter.{verdict_of}
 use Rattle.slave_counter.specs.Row.{row_of, with_row, checked_of}
 use Rattle.slave_pair.specs.Pair.{pair_of}
@@ -38,7 +38,7 @@ with_pair d t s row = with_sync (with_pairing d (Open (pair_of t s))) t s row
 -- ---- 6 "SYNC's counter not good": "a refused counter during the row sets it to 0". 15 "SYNC good in counter but row
 -- not complete": "such a SYNC becomes the last one, joins the row".
 abbrev pub sync_as : RowCheck → Domain → VirtualLocalTime → Sync → FrameStep
-sync_as (not-Good row) d t s = refused_of (with_last d (with_row d.last row)) SyncCounter
+sync_as (not_good row) d t s = refused_of (with_last d (with_row d.last row)) SyncCounter
 sync_as (Joins row) d t s = refused_of (with_sync d t s row) RowIncomplete
 sync_as (Complete row) d t s = record { answer = SyncTaken; domain = with_pair d t s row }
 

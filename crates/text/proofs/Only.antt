@@ -1,4 +1,4 @@
--- No two results satisfy the promise of F, as `F-only` for each public function F. A result is the place
+-- No two results satisfy the promise of F, as `F_only` for each public function F. A result is the place
 -- with the lent bytes, and every promise here is `Puts` of some text: one law, `puts_only`. No contract
 -- cites this file.
 -- Assumes nothing.

@@ -40,7 +40,7 @@ use Rattle.round.specs.Turn.{turn_of, next_place, next_after}
 use Rattle.round.specs.Round.{frames_by, sent_after, Gone, before, goes, pasted}
 use Rattle.node.specs.declared.Node.{Node}
 use Rattle.node.specs.declared.cycles.CycleAnswer.{CycleAnswer}
-use Rattle.node.specs.declared.cycles.CycleAnswer.TheVariants.{Sent as has-sent, Refused}
+use Rattle.node.specs.declared.cycles.CycleAnswer.TheVariants.{Sent as has_sent_one, Refused}
 use Rattle.node.specs.declared.cycles.NodeCycle.{NodeCycle}
 use Rattle.node.specs.CycleAnswer.{cycle_number}
 use Rattle.node.specs.Store.{stored_in}
@@ -234,7 +234,7 @@ module _ (words : List ℕ) (t : ℕ) where
 
   abbrev answer_by : (good fits : Bool) → CycleAnswer
   answer_by good fits =
-      cond good (cond fits (has-sent (length (went_from words t).frames)) (Refused NoRoom)) (Refused Reading)
+      cond good (cond fits (has_sent_one (length (went_from words t).frames)) (Refused NoRoom)) (Refused Reading)
 
   number_by_lem : (good fits : Bool) → number_by good fits ≡ cycle_number (answer_by good fits)
   number_by_lem true true = refl
@@ -263,7 +263,7 @@ module _ (words : List ℕ) (t : ℕ) where
         length-set (set w 0 t) 1 _ ∙ length-set w 0 t ∙ gone.after.size
 
     answer_by_lem : (good fits : Bool) → answer_by good fits ≡ (cycle_by n reading good fits).answer
-    answer_by_lem true true = ap (λ (frames : List (List ℕ)). has-sent (length frames)) gone.frames
+    answer_by_lem true true = ap (λ (frames : List (List ℕ)). has_sent_one (length frames)) gone.frames
     answer_by_lem true false = refl
     answer_by_lem false fits = refl
 

@@ -21,7 +21,7 @@ use Rattle.frame.specs.declared.types.FrameType.TheVariants.{
   SecuredSync,
   PlainFup,
   SecuredFup,
-  Unknown as no-type,
+  Unknown as no_type,
 }
 use Rattle.frame.specs.Types.{type_of}
 use Rattle.frame.specs.declared.values.Frame.{Frame}
@@ -85,7 +85,7 @@ values_fit PlainSync bytes h = (omega (arith, h 4, h 5, h 6, h 7), omega arith, 
 values_fit SecuredSync bytes h = (omega (arith, h 4, h 5, h 6, h 7), omega arith, h 3, omega arith)
 values_fit PlainFup bytes h = h 1
 values_fit SecuredFup bytes h = omega arith
-values_fit no-type bytes h = tt
+values_fit no_type bytes h = tt
 
 read_fits : (bytes : List ℕ) → AreBytes bytes → ReadFits (read_of bytes)
 read_fits bytes are =

@@ -1,4 +1,4 @@
--- No two results satisfy the promise of F, as `F-only` for the public function F; nor a promise that is `Stepped`, or
+-- No two results satisfy the promise of F, as `F_only` for the public function F; nor a promise that is `Stepped`, or
 -- `RecordStepped`. A result with lent bytes is a pair of both. No contract cites this file.
 -- Assumes nothing.
 use Prim.Native.Nat.{ℕ}

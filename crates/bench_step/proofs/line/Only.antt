@@ -1,4 +1,4 @@
--- No two results satisfy the promise of F, as `F-only` for the public function F: the promise is `Puts` of
+-- No two results satisfy the promise of F, as `F_only` for the public function F: the promise is `Puts` of
 -- the line. No contract cites this file.
 -- Assumes nothing.
 use Prim.Native.Nat.{ℕ}

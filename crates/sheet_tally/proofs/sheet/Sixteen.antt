@@ -16,11 +16,11 @@ use Rattle.sheet_tally.specs.declared.Tally.{Tally}
 use Rattle.sheet_tally.specs.declared.sheet.Sheet.{Sheet}
 use Rattle.sheet_tally.specs.Sheet.{tally_at}
 use Rattle.sheet_tally.specs.contracts.sheet.Sheet as declared
-use Rattle.sheet_tally.proofs.sheet.Sheet.TheLaws as declared-laws
+use Rattle.sheet_tally.proofs.sheet.Sheet.TheLaws as declared_laws
 
 pub sixteen : (s : Sheet) (vs : List Val) → Is declared.the_row s vs → length s.tallies ≡ places
 sixteen s vs p =
-    sym (length-map s.tallies _) ∙ (laws.owed declared.the_type declared-laws.the_laws s vs p).0.1.0.1
+    sym (length-map s.tallies _) ∙ (laws.owed declared.the_type declared_laws.the_laws s vs p).0.1.0.1
 
 pub looked_up :
     (s : Sheet) (vs : List Val) → Is declared.the_row s vs → (at : ℕ) (other : Tally) → at < places →

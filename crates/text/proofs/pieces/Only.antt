@@ -1,4 +1,4 @@
--- No two results satisfy the promise of F, as `F-only` for each public function F that reads and writes nothing. A
+-- No two results satisfy the promise of F, as `F_only` for each public function F that reads and writes nothing. A
 -- result with lent bytes is a pair of both. No contract cites this file.
 -- Assumes nothing.
 use Prim.Native.Nat.{ℕ, min}
