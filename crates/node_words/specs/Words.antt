@@ -1,6 +1,6 @@
 -- A node in 354 words: the kept reading; S and the round; then 22 for each record, eleven with its settings and eleven
 -- with its state. Assumes nothing.
-use Rattle.std.specs.Prelude.{ℕ, ◌+◌, ◌*◌, List, [], ◌∷◌, ◌++◌, get_or, take, drop}
+use Rattle.std.specs.Prelude.{ℕ, ◌+◌, ◌*◌, List, ◌++◌, get_or, take, drop}
 use Rattle.clock.specs.declared.reading.VirtualLocalTime.{VirtualLocalTime}
 use Rattle.domain.specs.declared.Domain.{Domain}
 use Rattle.record_words.specs.Record.{settings_of, number_of, domain_of, state_words}
