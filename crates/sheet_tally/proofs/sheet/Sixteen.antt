@@ -20,7 +20,7 @@ use Rattle.sheet_tally.proofs.sheet.Sheet.TheLaws as declared_laws
 
 pub sixteen : (s : Sheet) (vs : List Val) → Is declared.the_row s vs → length s.tallies ≡ places
 sixteen s vs p =
-    sym (length-map s.tallies _) ∙ (laws.owed declared.the_type declared_laws.the_laws s vs p).0.1.0.1
+    (laws.owed declared.the_type declared_laws.the_laws s vs p).0.1.0.1
 
 pub looked_up :
     (s : Sheet) (vs : List Val) → Is declared.the_row s vs → (at : ℕ) (other : Tally) → at < places →
