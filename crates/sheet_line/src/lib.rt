@@ -40,6 +40,7 @@ pub fn put_sheet(out: &mut [u8], at: usize, node: Node, sheet: Sheet) -> usize
 }
 
 // A slave has a line, and another domain none.
+#[tactic(auto, using(text::proofs::Laws::nothing))]
 fn put_domain(out: &mut [u8], at: usize, domain: u8, role: Role, tally: Tally) -> usize
     ensures { Puts (domain_text domain role tally) at out.old result out.new }
 {

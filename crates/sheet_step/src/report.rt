@@ -16,6 +16,7 @@ pub fn put_report(out: &mut [u8], at: usize, account: Account, left: usize) -> u
     put_sheet(out, then, account.node, account.sheet)
 }
 
+#[tactic(auto, using(text::proofs::Laws::nothing))]
 fn put_refusal(out: &mut [u8], at: usize, records: u64, bad: bool, left: usize) -> usize
     ensures { Puts (refusal_text records bad left) at out.old result out.new }
 {
