@@ -24,6 +24,6 @@ returns-else-count-eq0 c =
       then
           (then c.put_byte-digits.ensures c.put_decimal-then.ensures)
           (named
-              (one_frame c.args.sent.now _ c.if-count-eq0.false)
-              (then c.put_byte-frame.ensures c.put_hex.ensures)),
+          (one_frame c.args.sent.now _ c.if-count-eq0.false)
+          (then c.put_byte-frame.ensures c.put_hex.ensures)),
     )
