@@ -3,7 +3,7 @@
 --   records_add_up   the counts that are printed are the records read
 --   in_pieces        bytes in pieces are taken as if they had come at once
 -- Assumes nothing.
-use Prim.Native.Nat.{ℕ, zero, suc, ◌+◌, ◌-◌, ◌*◌, ◌/◌, ◌^◌, ◌≤◌, ◌<◌}
+use Prim.Native.Nat.{ℕ, zero, suc, ◌+◌, ◌*◌, ◌/◌, ◌^◌, ◌≤◌, ◌<◌}
 use mathlib.Core.Path.{◌≡◌, refl, sym, ap, subst, ◌∙◌}
 use mathlib.Core.Bool.{Bool, true, false, cond}
 use mathlib.Core.List.{List, [], ◌∷◌, ◌++◌, append_assoc, append-nil}
@@ -30,17 +30,7 @@ use Rattle.sheet_step.specs.Account.{account_of, called, after_asked, after_reco
 use Rattle.sheet_step.proofs.Records.{first_record, no_record}
 use Rattle.sheet_laws.specs.Calls.{asked_then, calls_of, entry_in, sheet_after}
 use Rattle.sheet_laws.specs.Totals.{printed_count}
-use Rattle.sheet_laws.specs.Records.{
-  Read,
-  RecordsRead,
-  RecordsAddUp,
-  joined,
-  taken_of,
-  rest_of,
-  account_in,
-  held_in,
-  InPieces,
-}
+use Rattle.sheet_laws.specs.Records.{RecordsRead, RecordsAddUp, joined, taken_of, rest_of, account_in, held_in, InPieces}
 use Rattle.sheet_laws.proofs.Tally.{next}
 use Rattle.sheet_laws.proofs.AddUp.{counts_add_up}
 

@@ -1,5 +1,5 @@
 -- Paper 02, request 13: the sheet of records, in whatever pieces their bytes come. Assumes nothing.
-use Rattle.std.specs.Prelude.{ℕ, ◌+◌, ◌*◌, ◌/◌, ◌^◌, ◌<◌, ◌≡◌, List, [], ◌∷◌, ◌++◌, ltb, length, drop}
+use Rattle.std.specs.Prelude.{ℕ, ◌*◌, ◌/◌, ◌^◌, ◌<◌, ◌≡◌, List, [], ◌∷◌, ◌++◌, ltb, length, drop}
 use Rattle.node.specs.declared.Node.{Node}
 use Rattle.node_call.specs.Calls.{node_after_all}
 use Rattle.sheet_tally.specs.Sheet.{no_sheet}
