@@ -20,7 +20,7 @@ pub set_in_only :
     OnlyOne (λ (r : ℕ × List ℕ). SetIn words domain t seconds nanoseconds r.0 r.1)
 set_in_only words domain t seconds nanoseconds x y p q =
     let number = p.number ∙ sym q.number in
-    let after = p.words_after_lem ∙ sym q.words_after_lem in
+    let after = p.words_after ∙ sym q.words_after in
     λ i. (number i, after i)
 
 pub confirm_in_only :
@@ -28,6 +28,6 @@ pub confirm_in_only :
     OnlyOne (λ (r : ℕ × (List ℕ × List ℕ)). ConfirmedBy words domain t counter before r.0 r.1.0 r.1.1)
 confirm_in_only words domain t counter before x y p q =
     let number = p.number ∙ sym q.number in
-    let after = p.words_after_lem ∙ sym q.words_after_lem in
+    let after = p.words_after ∙ sym q.words_after in
     let bytes = p.bytes ∙ sym q.bytes in
     λ i. (number i, (after i, bytes i))

@@ -47,7 +47,7 @@ set_words words domain call =
 pub record SetIn
     (words : List ℕ) (domain t seconds nanoseconds : ℕ) (r : ℕ) (after : List ℕ) : Type 0 where
   pub number : r ≡ set_number (set_by words domain t seconds nanoseconds).answer
-  pub words_after_lem : after ≡ set_words words domain (set_by words domain t seconds nanoseconds)
+  pub words_after : after ≡ set_words words domain (set_by words domain t seconds nanoseconds)
 
 -- ---- A confirmation: the words of the SYNC sent last, and the kept reading; and the FUP's bytes.
 abbrev pub confirm_by : List ℕ → (domain t counter room : ℕ) → ConfirmCall
@@ -63,7 +63,7 @@ pub record ConfirmedBy
     (words : List ℕ) (domain t counter : ℕ) (before : List ℕ)
     (r : ℕ) (after : List ℕ) (out : List ℕ) : Type 0 where
   pub number : r ≡ confirm_number (confirm_by words domain t counter (length before)).answer
-  pub words_after_lem : after ≡ confirm_words words domain (confirm_by words domain t counter (length before))
+  pub words_after : after ≡ confirm_words words domain (confirm_by words domain t counter (length before))
   pub bytes :
       out
       ≡ confirm_bytes (confirm_by words domain t counter (length before)).answer

@@ -19,13 +19,13 @@ module _ (words : List ℕ) (t : ℕ) (before told : List ℕ) where
   pub early :
       (r : ℕ) → r ≡ 1 → is_good_reading (kept_of words) (record { 0 = t }) ≡ false →
       CycledBy words t before told r words before told
-  early r er e = rw er (record { number = rw e; words_after_lem = refl; bytes = refl; counts = refl })
+  early r er e = rw er (record { number = rw e; words_after = refl; bytes = refl; counts = refl })
 
   module _ (e : is_good_reading (kept_of words) (record { 0 = t }) ≡ true) where
     pub short :
         (r : ℕ) → r ≡ 12 → leb (8 * syncs_of words) (length before) ≡ false →
         CycledBy words t before told r words before told
-    short r er f = rw er (record { number = rw (e, f); words_after_lem = refl; bytes = refl; counts = refl })
+    short r er f = rw er (record { number = rw (e, f); words_after = refl; bytes = refl; counts = refl })
 
     pub done :
         (g : Gone) (after out : List ℕ) (word : ℕ) → leb (8 * syncs_of words) (length before) ≡ true →
@@ -36,7 +36,7 @@ module _ (words : List ℕ) (t : ℕ) (before told : List ℕ) where
         let next = ew ∙ ap (λ (g : Gone). head_word (syncs_of words) g.next) p.gone in
         record {
           number = rw (e, f);
-          words_after_lem = λ i. set (set (p.words_after_lem i) 0 t) 1 (next i);
+          words_after = λ i. set (set (p.words_after i) 0 t) 1 (next i);
           bytes = p.bytes;
           counts = ap (λ (g : Gone). g.sent ∷ []) p.gone;
         }

@@ -16,7 +16,7 @@ pub cycle_in_only :
     OnlyOne (λ (r : ℕ × List ℕ × List ℕ × List ℕ). CycledBy words t before told r.0 r.1 r.2 r.3)
 cycle_in_only words t before told x y p q =
     let a = p.number ∙ sym q.number in
-    let b = p.words_after_lem ∙ ap (λ (r : ℕ). cond (eqb r 0) (cycled_words words t) words) a ∙ sym q.words_after_lem in
+    let b = p.words_after ∙ ap (λ (r : ℕ). cond (eqb r 0) (cycled_words words t) words) a ∙ sym q.words_after in
     let c =
     p.bytes
     ∙ ap (λ (r : ℕ). cond (eqb r 0) (pasted 0 (went_from words t).frames before) before) a

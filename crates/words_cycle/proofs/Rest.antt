@@ -24,7 +24,7 @@ use Rattle.words_cycle.proofs.Turned.{One}
 pub record Rest
     (whole : Went) (first : List ℕ) (most : ℕ) (t : VirtualLocalTime) (k at sent : ℕ) (words : List ℕ)
     (next : ℕ) (out : List ℕ) : Type 0 where
-  pub words_after_lem : (goes k at sent most t words next).words ≡ whole.words
+  pub words_after : (goes k at sent most t words next).words ≡ whole.words
   pub next_one : (goes k at sent most t words next).next ≡ whole.next
   pub count : sent + length (goes k at sent most t words next).frames ≡ length whole.frames
   pub bytes : pasted sent (goes k at sent most t words next).frames out ≡ pasted 0 whole.frames first
@@ -52,15 +52,15 @@ module _ (whole : Went) (first : List ℕ) (most : ℕ) (t : VirtualLocalTime) (
       Rest whole first most t k (next_place places at) sent' words' next' out'
   onward r =
       record {
-        words_after_lem =
-            rw (p.count, p.next_one, p.words_after_lem) (sym (ap (λ (g : Went). g.words) told) ∙ r.words_after_lem);
-        next_one = rw (p.count, p.next_one, p.words_after_lem) (sym (ap (λ (g : Went). g.next) told) ∙ r.next_one);
+        words_after =
+            rw (p.count, p.next_one, p.words_after) (sym (ap (λ (g : Went). g.words) told) ∙ r.words_after);
+        next_one = rw (p.count, p.next_one, p.words_after) (sym (ap (λ (g : Went). g.next) told) ∙ r.next_one);
         count =
-            rw (p.count, p.next_one, p.words_after_lem)
+            rw (p.count, p.next_one, p.words_after)
             (counted_turn one.answer ids sent left.frames
             ∙ sym (ap (λ (g : Went). sent + length g.frames) told) ∙ r.count);
         bytes =
-            rw (p.count, p.next_one, p.words_after_lem, p.bytes)
+            rw (p.count, p.next_one, p.words_after, p.bytes)
             (sym (pasted_turn one.answer ids sent left.frames out)
             ∙ sym (ap (λ (g : Went). pasted sent g.frames out) told) ∙ r.bytes);
       }
@@ -73,6 +73,6 @@ unfolding goes
 at_end words₀ f most t at sent words next first out r =
     record {
       gone = λ i. record { next = r.next_one i; sent = (sym (add-zero sent) ∙ r.count) i };
-      words_after_lem = r.words_after_lem;
+      words_after = r.words_after;
       bytes = r.bytes;
     }

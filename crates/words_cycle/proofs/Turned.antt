@@ -39,7 +39,7 @@ module _ (words : List ℕ) (at : ℕ) (t : VirtualLocalTime) (before : List ℕ
   by_step s r after out e er ew eo =
       record {
         sends = er ∙ ap (λ (s : SendStep). has_sent s.answer) e;
-        words_after_lem = ew ∙ ap (λ (s : SendStep). turn_words s words at) e;
+        words_after = ew ∙ ap (λ (s : SendStep). turn_words s words at) e;
         bytes =
             eo
             ∙ ap (λ (s : SendStep). pasted sent (frames_by s.answer (record_of words at).settings.ids) before) e;
@@ -81,7 +81,7 @@ module _ (words : List ℕ) (at : ℕ) (t : VirtualLocalTime) (before : List ℕ
 pub record Turned
     (s : SendStep) (words : List ℕ) (at sent next : ℕ) (out words' : List ℕ) (sent' next' : ℕ)
     (out' : List ℕ) : Type 0 where
-  pub words_after_lem : words' ≡ turn_words s words at
+  pub words_after : words' ≡ turn_words s words at
   pub count : sent' ≡ sent_after s.answer sent
   pub next_one : next' ≡ next_after s.answer at next
   pub bytes : out' ≡ pasted sent (frames_by s.answer (record_of words at).settings.ids) out
@@ -106,7 +106,7 @@ module _ (words : List ℕ) (at sent most next : ℕ) (t : VirtualLocalTime) (ou
   pub over : most ≤ sent → One words sent next out
   over h =
       rw (le-ltb sent most h)
-      (record { words_after_lem = refl; count = refl; next_one = refl; bytes = refl })
+      (record { words_after = refl; count = refl; next_one = refl; bytes = refl })
 
   module _ (r : Bool) (words' out' : List ℕ) (h : sent < most) (p : TurnedIn words at t out sent r words' out') where
     pub asked_rests : r ≡ false → One words' sent next out'
@@ -114,7 +114,7 @@ module _ (words : List ℕ) (at sent most next : ℕ) (t : VirtualLocalTime) (ou
         let no = unsent (send_of (record_of words at) t).answer (sym p.sends ∙ e) in
         rw (lt-ltb sent most h)
         (record {
-          words_after_lem = p.words_after_lem;
+          words_after = p.words_after;
           count = ap (λ (a : SendAnswer). sent_after a sent) no;
           next_one = ap (λ (a : SendAnswer). next_after a at next) no;
           bytes = p.bytes;
@@ -125,7 +125,7 @@ module _ (words : List ℕ) (at sent most next : ℕ) (t : VirtualLocalTime) (ou
         let a = (send_of (record_of words at) t).answer in
         rw (lt-ltb sent most h)
         (record {
-          words_after_lem = p.words_after_lem;
+          words_after = p.words_after;
           count = counts a sent (sym p.sends ∙ e);
           next_one = next_place_lem a at next b (sym p.sends ∙ e);
           bytes = p.bytes;

@@ -63,7 +63,7 @@ pub record TurnedIn
     (words : List ℕ) (at : ℕ) (t : VirtualLocalTime) (before : List ℕ) (sent : ℕ)
     (r : Bool) (after out : List ℕ) : Type 0 where
   pub sends : r ≡ has_sent (send_of (record_of words at) t).answer
-  pub words_after_lem : after ≡ turn_words (send_of (record_of words at) t) words at
+  pub words_after : after ≡ turn_words (send_of (record_of words at) t) words at
   pub bytes :
       out ≡ pasted sent (frames_by (send_of (record_of words at) t).answer (record_of words at).settings.ids) before
 
@@ -71,12 +71,12 @@ pub record GoneIn
     (words : List ℕ) (first : ℕ) (t : VirtualLocalTime) (most : ℕ) (before : List ℕ)
     (r : Gone) (after out : List ℕ) : Type 0 where
   pub gone : r ≡ record { next = (went_by words first t most).next; sent = length (went_by words first t most).frames }
-  pub words_after_lem : after ≡ (went_by words first t most).words
+  pub words_after : after ≡ (went_by words first t most).words
   pub bytes : out ≡ pasted 0 (went_by words first t most).frames before
 
 pub record CycledBy
     (words : List ℕ) (t : ℕ) (before told : List ℕ) (r : ℕ) (after out sent : List ℕ) : Type 0 where
   pub number : r ≡ cycle_number_in words t (length before)
-  pub words_after_lem : after ≡ cond (eqb r 0) (cycled_words words t) words
+  pub words_after : after ≡ cond (eqb r 0) (cycled_words words t) words
   pub bytes : out ≡ cond (eqb r 0) (pasted 0 (went_from words t).frames before) before
   pub counts : sent ≡ cond (eqb r 0) (length (went_from words t).frames ∷ []) told

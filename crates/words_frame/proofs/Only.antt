@@ -14,7 +14,7 @@ pub frame_in_only :
     OnlyOne (λ (r : ℕ × (List ℕ × List ℤ)). FramedIn words t bytes before r.0 r.1.0 r.1.1)
 frame_in_only words t bytes before x y p q =
     let number = p.number ∙ sym q.number in
-    let after = p.words_after_lem ∙ sym q.words_after_lem in
+    let after = p.words_after ∙ sym q.words_after in
     let tells = p.tells ∙ sym q.tells in
     λ i. (number i, (after i, tells i))
 
@@ -23,6 +23,6 @@ pub queue_in_only :
     OnlyOne (λ (r : ℕ × (List ℕ × List ℕ)). QueuedIn words ts fs before r.0 r.1.0 r.1.1)
 queue_in_only words ts fs before x y p q =
     let number = p.number ∙ sym q.number in
-    let after = p.words_after_lem ∙ sym q.words_after_lem in
+    let after = p.words_after ∙ sym q.words_after in
     let bytes = p.bytes ∙ sym q.bytes in
     λ i. (number i, (after i, bytes i))

@@ -20,7 +20,7 @@ use Rattle.words_frame.specs.Frame.{called_in, frame_words, TakenIn}
 use Rattle.words_frame.specs.Queue.{frames_words, frames_numbers, queue_words, queue_numbers, QueuedIn}
 
 pub record Rest (whole filled ts fs : List ℕ) (i : ℕ) (words out : List ℕ) : Type 0 where
-  pub words_after_lem : frames_words words (drop i ts) (drop (8 * i) fs) ≡ whole
+  pub words_after : frames_words words (drop i ts) (drop (8 * i) fs) ≡ whole
   pub bytes : take i out ++ frames_numbers words (drop i ts) (drop (8 * i) fs) ++ drop (length ts) out ≡ filled
 
 module _ (whole filled ts fs : List ℕ) (i : ℕ) (words out : List ℕ) (answer : FrameAnswer) (words' : List ℕ) (b : ℕ)
@@ -35,7 +35,7 @@ module _ (whole filled ts fs : List ℕ) (i : ℕ) (words out : List ℕ) (answe
       ap (λ (k : ℕ). take k (drop (8 * i) fs)) eight
 
   stepped : words' ≡ frame_words words (get_or ts i 0) (take 8 (drop (8 * i) fs))
-  stepped = taken.words_after_lem ∙ ap (frame_words words (get_or ts i 0)) frame
+  stepped = taken.words_after ∙ ap (frame_words words (get_or ts i 0)) frame
 
   answered : b ≡ frame_number (called_in words (get_or ts i 0) (take 8 (drop (8 * i) fs))).answer
   answered =
@@ -66,9 +66,9 @@ module _ (whole filled ts fs : List ℕ) (i : ℕ) (words out : List ℕ) (answe
   onward r =
       let left = frames_numbers words' (drop (i + 1) ts) (drop (8 * (i + 1)) fs) in
       record {
-        words_after_lem =
+        words_after =
             (λ k. frames_words (stepped k) (drop (i + 1) ts) (behind k))
-            ∙ ap (λ (l : List ℕ). frames_words words l (drop (8 * i) fs)) reading ∙ r.words_after_lem;
+            ∙ ap (λ (l : List ℕ). frames_words words l (drop (8 * i) fs)) reading ∙ r.words_after;
         bytes =
             (λ k. written k ++ left ++ drop-set-lt (length ts) out i b h k)
             ∙ ap (λ (l : List ℕ). l ++ drop (length ts) out)
@@ -81,10 +81,10 @@ module _ (words ts fs before : List ℕ) where
       (a : QueueAnswer) (r : ℕ) (after out : List ℕ) → a ≡ queue_answer (length ts) (length fs) (length before) →
       r ≡ queue_number a → after ≡ queue_words a words ts fs → out ≡ queue_numbers a words ts fs before →
       QueuedIn words ts fs before r after out
-  queued a r after out e number words_after_lem bytes =
+  queued a r after out e number words_after bytes =
       record {
         number = number ∙ ap queue_number e;
-        words_after_lem = words_after_lem ∙ ap (λ (a : QueueAnswer). queue_words a words ts fs) e;
+        words_after = words_after ∙ ap (λ (a : QueueAnswer). queue_words a words ts fs) e;
         bytes = bytes ∙ ap (λ (a : QueueAnswer). queue_numbers a words ts fs before) e;
       }
 
@@ -95,7 +95,7 @@ module _ (words ts fs before : List ℕ) where
   at_end i after out e taken r =
       let none = ap (λ (k : ℕ). drop k ts) e ∙ drop-length ts in
       queued Taken 0 after out taken refl
-      (sym (ap (λ (l : List ℕ). frames_words after l (drop (8 * i) fs)) none) ∙ r.words_after_lem)
+      (sym (ap (λ (l : List ℕ). frames_words after l (drop (8 * i) fs)) none) ∙ r.words_after)
       (sym (take-append-drop i out) ∙ ap (λ (l : List ℕ). l ++ drop i out) (sym (append-nil (take i out)))
       ∙ ap (λ (k : ℕ). take i out ++ [] ++ drop k out) e
       ∙ sym (ap (λ (l : List ℕ). take i out ++ frames_numbers after l (drop (8 * i) fs) ++ drop (length ts) out) none)

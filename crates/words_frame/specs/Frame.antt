@@ -33,10 +33,10 @@ told (Refused refusal) before = before
 -- ---- The promises: the answer, every word, and what is told.
 pub record TakenIn (words : List ℕ) (t : ℕ) (bytes : List ℕ) (r : FrameAnswer) (after : List ℕ) : Type 0 where
   pub answer : r ≡ (called_in words t bytes).answer
-  pub words_after_lem : after ≡ frame_words words t bytes
+  pub words_after : after ≡ frame_words words t bytes
 
 pub record FramedIn
     (words : List ℕ) (t : ℕ) (bytes : List ℕ) (before : List ℤ) (r : ℕ) (after : List ℕ) (taken : List ℤ) : Type 0 where
   pub number : r ≡ frame_number (called_in words t bytes).answer
-  pub words_after_lem : after ≡ frame_words words t bytes
+  pub words_after : after ≡ frame_words words t bytes
   pub tells : taken ≡ told (called_in words t bytes).answer before

@@ -30,5 +30,5 @@ queue_numbers (Refused refusal) words ts fs before = before
 pub record QueuedIn
     (words ts fs before : List ℕ) (r : ℕ) (after : List ℕ) (answers : List ℕ) : Type 0 where
   pub number : r ≡ queue_number (queue_answer (length ts) (length fs) (length before))
-  pub words_after_lem : after ≡ queue_words (queue_answer (length ts) (length fs) (length before)) words ts fs
+  pub words_after : after ≡ queue_words (queue_answer (length ts) (length fs) (length before)) words ts fs
   pub bytes : answers ≡ queue_numbers (queue_answer (length ts) (length fs) (length before)) words ts fs before

@@ -18,7 +18,7 @@ use Rattle.words_laws.proofs.Cycle.{cycle_number_lem}
 -- ---- A call that answered a number, and left these words and these lent bytes, did what `Run` says.
 pub record Does (words : List ℕ) (c : Call) (number : ℕ) (after out : List ℕ) : Type 0 where
   pub numbered : number ≡ call_number (answer_in words c)
-  pub words_after_lem : after ≡ words_after words c
+  pub words_after : after ≡ words_after words c
   pub bytes : out ≡ bytes_in words c (lent_to c)
 
 pub frame_does :
@@ -26,18 +26,18 @@ pub frame_does :
     FramedIn words t bytes before r after taken →
     Does words (frame (record { 0 = t }) bytes) r after (lent_to (frame (record { 0 = t }) bytes))
 frame_does words t bytes before r after taken p =
-    record { numbered = p.number; words_after_lem = p.words_after_lem; bytes = refl }
+    record { numbered = p.number; words_after = p.words_after; bytes = refl }
 
 pub read_does :
     (words : List ℕ) (domain t : ℕ) (before : List ℕ) (r : ℕ) (shown : List ℕ) → ReadIn words domain t before r shown →
     Does words (read domain (record { 0 = t })) r words (lent_to (read domain (record { 0 = t })))
-read_does words domain t before r shown p = record { numbered = p.number; words_after_lem = refl; bytes = refl }
+read_does words domain t before r shown p = record { numbered = p.number; words_after = refl; bytes = refl }
 
 pub set_does :
     (words : List ℕ) (domain t s ns : ℕ) (r : ℕ) (after : List ℕ) → SetIn words domain t s ns r after →
     Does words (set domain (record { 0 = t }) s ns) r after (lent_to (set domain (record { 0 = t }) s ns))
 set_does words domain t s ns r after p =
-    record { numbered = p.number; words_after_lem = p.words_after_lem; bytes = refl }
+    record { numbered = p.number; words_after = p.words_after; bytes = refl }
 
 pub cycle_does :
     (words : List ℕ) (t : ℕ) (before told : List ℕ) (r : ℕ) (after out sent : List ℕ) →
@@ -45,7 +45,7 @@ pub cycle_does :
 cycle_does words t before told r after out sent p =
     record {
       numbered = p.number ∙ cycle_number_lem words t (length before);
-      words_after_lem = p.words_after_lem ∙ ap (λ (n : ℕ). cond (eqb n 0) (cycled_words words t) words) p.number;
+      words_after = p.words_after ∙ ap (λ (n : ℕ). cond (eqb n 0) (cycled_words words t) words) p.number;
       bytes =
           p.bytes ∙ ap (λ (n : ℕ). cond (eqb n 0) (pasted 0 (went_from words t).frames before) before) p.number;
     }
@@ -55,4 +55,4 @@ pub confirm_does :
     ConfirmedBy words domain t counter before r after out →
     Does words (confirm domain (record { 0 = t }) counter before) r after out
 confirm_does words domain t counter before r after out p =
-    record { numbered = p.number; words_after_lem = p.words_after_lem; bytes = p.bytes }
+    record { numbered = p.number; words_after = p.words_after; bytes = p.bytes }

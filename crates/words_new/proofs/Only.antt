@@ -10,5 +10,5 @@ use Rattle.words_new.specs.New.{NewIn}
 pub new_in_only : (given : List ℕ) → OnlyOne (λ (r : ℕ × List ℕ). NewIn given r.0 r.1)
 new_in_only given x y p q =
     let number = p.number ∙ sym q.number in
-    let words = p.words_after_lem ∙ sym q.words_after_lem in
+    let words = p.words_after ∙ sym q.words_after in
     λ i. (number i, words i)

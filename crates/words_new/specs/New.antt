@@ -23,4 +23,4 @@ node_given given =
 -- ---- The promise: the number, and every word, whatever stood there before.
 pub record NewIn (given : List ℕ) (r : ℕ) (after : List ℕ) : Type 0 where
   pub number : r ≡ verdict_number (new_of (node_given given)).verdict
-  pub words_after_lem : after ≡ node_words (new_of (node_given given)).node
+  pub words_after : after ≡ node_words (new_of (node_given given)).node

@@ -18,7 +18,7 @@ returns-then-number-eq0 c =
     let done : eqb (confirm_number called.answer) 0 ≡ true = eq-eqb _ 0 (sym answered ∙ c.if-number-eq0.true) in
     record {
       number = answered;
-      words_after_lem = rw (done, c.put_sent.ensures, is_called);
+      words_after = rw (done, c.put_sent.ensures, is_called);
       bytes = c.confirm_call-call.ensures.bytes ∙ rw (is_called, c.record_in-record.ensures);
     }
 
@@ -33,6 +33,6 @@ returns-else-number-eq0 c =
     let failed : eqb (confirm_number called.answer) 0 ≡ false = ne_eqb _ 0 (λ e. c.if-number-eq0.false (answered ∙ e)) in
     record {
       number = answered;
-      words_after_lem = rw failed;
+      words_after = rw failed;
       bytes = c.confirm_call-call.ensures.bytes ∙ rw (is_called, c.record_in-record.ensures);
     }

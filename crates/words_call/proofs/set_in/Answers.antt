@@ -15,7 +15,7 @@ returns-then-number-eq0 c =
     let answered : c.number-number.result ≡ set_number called.answer =
     c.number-number.ensures ∙ ap (λ (r : SetCall). set_number r.answer) is_called in
     let done : eqb (set_number called.answer) 0 ≡ true = eq-eqb _ 0 (sym answered ∙ c.if-number-eq0.true) in
-    record { number = answered; words_after_lem = rw (done, c.put_base.ensures, is_called) }
+    record { number = answered; words_after = rw (done, c.put_base.ensures, is_called) }
 
 pub returns-else-number-eq0 : goal.returns-else-number-eq0
 returns-else-number-eq0 c =
@@ -25,4 +25,4 @@ returns-else-number-eq0 c =
     let answered : c.number-number.result ≡ set_number called.answer =
     c.number-number.ensures ∙ ap (λ (r : SetCall). set_number r.answer) is_called in
     let failed : eqb (set_number called.answer) 0 ≡ false = ne_eqb _ 0 (λ e. c.if-number-eq0.false (answered ∙ e)) in
-    record { number = answered; words_after_lem = rw failed }
+    record { number = answered; words_after = rw failed }

@@ -19,7 +19,7 @@ loop-turns-init c = (
   omega arith,
   omega arith,
   omega arith,
-  record { words_after_lem = refl; next_one = refl; count = omega arith; bytes = refl },
+  record { words_after = refl; next_one = refl; count = omega arith; bytes = refl },
 )
 
 pub loop-turns-preserved : goal.loop-turns-preserved

@@ -16,7 +16,7 @@ returns-then-is_stored c =
     let put : is_stored (frame_number called.answer) ≡ true = sym is_put ∙ c.if-is_stored.true in
     record {
       answer = ap (λ (r : FrameCall). r.answer) is_called;
-      words_after_lem = rw (put, c.put_frame.ensures, is_called, c.named_domain-at.ensures);
+      words_after = rw (put, c.put_frame.ensures, is_called, c.named_domain-at.ensures);
     }
 
 pub returns-else-is_stored : goal.returns-else-is_stored
@@ -28,4 +28,4 @@ returns-else-is_stored c =
     c.is_stored.ensures
     ∙ ap is_stored (c.number.ensures ∙ ap (λ (r : FrameCall). frame_number r.answer) is_called) in
     let left : is_stored (frame_number called.answer) ≡ false = sym is_put ∙ c.if-is_stored.false in
-    record { answer = ap (λ (r : FrameCall). r.answer) is_called; words_after_lem = rw left }
+    record { answer = ap (λ (r : FrameCall). r.answer) is_called; words_after = rw left }
