@@ -4,6 +4,7 @@
 --   slave_admitted   a record admitted as a slave's is one
 --   master_admitted  a record admitted as a master's is one
 -- Assumes nothing.
+use Rattle.std.specs.Prelude.{Err, Ok, ⊤}
 use Prim.Native.Nat.{ℕ, ◌≤◌}
 use mathlib.Core.Path.{◌≡◌, refl}
 use mathlib.Core.Bool.{true}
@@ -17,10 +18,9 @@ use Rattle.settings.specs.declared.domain_settings.Role.{Role}
 use Rattle.settings.specs.declared.domain_settings.Role.TheVariants.{Absent, Slave, Master}
 use Rattle.admission.specs.declared.Needed.{Needed}
 use Rattle.admission.specs.declared.Needed.TheVariants.{Slave as slave, Master as master}
-use Rattle.admission.specs.declared.Admission.{Admission}
-use Rattle.admission.specs.declared.Admission.TheVariants.{Admitted, Refused}
 use Rattle.admission.specs.Admission.{is_in, is_for, admitted_of}
 use Rattle.admission.specs.Reading.{is_good_reading}
+use Rattle.refusal.specs.Numbers.{Outcome}
 
 -- ---- the tests of an admission
 
@@ -35,8 +35,8 @@ good_reading kept t good =
     let range = both (is_reading t) (leb kept.0 t.0) good in (leb-true _ _ range.1, leb-true _ _ range.0)
 
 pub by_admission :
-    (P : Admission → Type 0) (kept t : VirtualLocalTime) (own : ℕ) (role : Role) (asked : ℕ) (needed : Needed) →
-    (Tested kept t role needed → P Admitted) → P (Refused Reading) → P (Refused domain) →
+    (P : Outcome ⊤ → Type 0) (kept t : VirtualLocalTime) (own : ℕ) (role : Role) (asked : ℕ) (needed : Needed) →
+    (Tested kept t role needed → P (Ok tt)) → P (Err Reading) → P (Err domain) →
     P (admitted_of kept t own role asked needed)
 by_admission P kept t own role asked needed p q r =
     either_told P (is_good_reading kept t)

@@ -1,14 +1,13 @@
 -- Paper 01, "Refusal numbers": 1 and 4, "in the order of the numbers". Assumes nothing.
-use Rattle.std.specs.Prelude.{ℕ, Bool, true, false, cond, ◌&&◌, eqb}
+use Rattle.std.specs.Prelude.{ℕ, Bool, true, false, cond, ◌&&◌, eqb, Err, Ok, ⊤}
 use Rattle.clock.specs.declared.reading.VirtualLocalTime.{VirtualLocalTime}
 use Rattle.refusal.specs.declared.Refusal.TheVariants.{Reading, Domain}
 use Rattle.settings.specs.declared.domain_settings.Role.{Role}
 use Rattle.settings.specs.declared.domain_settings.Role.TheVariants.{Absent, Slave, Master}
 use Rattle.admission.specs.declared.Needed.{Needed}
 use Rattle.admission.specs.declared.Needed.TheVariants.{Slave as slave, Master as master, Either as either}
-use Rattle.admission.specs.declared.Admission.{Admission}
-use Rattle.admission.specs.declared.Admission.TheVariants.{Admitted, Refused}
 use Rattle.admission.specs.Reading.{is_good_reading}
+use Rattle.refusal.specs.Numbers.{Outcome}
 
 -- ---- "not in the role needed (frame: slave; set, confirmation: master; read: either)"
 abbrev pub is_in : Role → Needed → Bool
@@ -25,7 +24,7 @@ abbrev pub is_for : (own : ℕ) → Role → (asked : ℕ) → Needed → Bool
 is_for own role asked needed = eqb asked own && is_in role needed
 
 -- ---- read, set, confirmation: 1, 4
-abbrev pub admitted_of : (kept t : VirtualLocalTime) (own : ℕ) → Role → (asked : ℕ) → Needed → Admission
+abbrev pub admitted_of : (kept t : VirtualLocalTime) (own : ℕ) → Role → (asked : ℕ) → Needed → Outcome ⊤
 admitted_of kept t own role asked needed =
-    cond (is_good_reading kept t) (cond (is_for own role asked needed) Admitted (Refused Domain))
-    (Refused Reading)
+    cond (is_good_reading kept t) (cond (is_for own role asked needed) (Ok tt) (Err Domain))
+    (Err Reading)

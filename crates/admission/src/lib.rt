@@ -11,8 +11,8 @@ ghost use Rattle.admission.specs.Kept.{kept_after};
 ghost use Rattle.admission.specs.Admission.{is_in, admitted_of};
 
 use clock::VirtualLocalTime;
-pub use frames::{FrameAdmission, admit_frame};
-use refusal::Refusal;
+pub use frames::admit_frame;
+use refusal::{Outcome, Refusal};
 use settings::Role;
 
 // The role that a call needs.
@@ -23,17 +23,11 @@ pub enum Needed {
     Either,
 }
 
-#[derive(Drop)]
-pub enum Admission {
-    Admitted,
-    Refused(Refusal),
-}
-
 // Whether a reading is at most the greatest one, and not before the kept one.
 pub fn is_good_reading(kept: VirtualLocalTime, t: VirtualLocalTime) -> bool
     ensures { result ≡ is_good_reading kept t }
 {
-    if t.is_reading() { kept.0 <= t.0 } else { false }
+    t.is_reading() && kept.0 <= t.0
 }
 
 // The reading kept after a call at t that answers a number: t where it is a success.
@@ -51,40 +45,25 @@ pub fn admit(
     role: Role,
     asked: u8,
     needed: Needed,
-) -> Admission
+) -> Outcome<()>
     ensures { result ≡ admitted_of kept t own role asked needed }
 {
     if !is_good_reading(kept, t) {
-        return Admission::Refused(Refusal::Reading);
+        return Err(Refusal::Reading);
     }
-    if asked != own {
-        return Admission::Refused(Refusal::Domain);
+    if asked != own || !is_in(role, needed) {
+        return Err(Refusal::Domain);
     }
-    if !is_in(role, needed) {
-        return Admission::Refused(Refusal::Domain);
-    }
-    Admission::Admitted
+    Ok(())
 }
 
 // Whether a role is one that is needed.
 pub fn is_in(role: Role, needed: Needed) -> bool
     ensures { result ≡ is_in role needed }
 {
-    match needed {
-        Needed::Slave => match role {
-            Role::Absent => false,
-            Role::Slave => true,
-            Role::Master => false,
-        },
-        Needed::Master => match role {
-            Role::Absent => false,
-            Role::Slave => false,
-            Role::Master => true,
-        },
-        Needed::Either => match role {
-            Role::Absent => false,
-            Role::Slave => true,
-            Role::Master => true,
-        },
+    match role {
+        Role::Absent => false,
+        Role::Slave => matches!(needed, Needed::Slave | Needed::Either),
+        Role::Master => matches!(needed, Needed::Master | Needed::Either),
     }
 }

@@ -6,6 +6,7 @@
 --                    and each leaves the record and the kept reading as they were
 --   foreign_done     any call that is not for a record: what it answers does not depend on the record, which stays
 -- Assumes nothing.
+use Rattle.std.specs.Prelude.{Err, Ok, Result, ⊤}
 use Prim.Native.Nat.{ℕ}
 use mathlib.Core.Path.{◌≡◌, refl}
 use mathlib.Core.Bool.{Bool, true, false, cond, ◌&&◌}
@@ -16,55 +17,51 @@ use borrow.Author.Tests.{ne_eqb}
 use Rattle.clock.specs.declared.reading.VirtualLocalTime.{VirtualLocalTime}
 use Rattle.frame.specs.declared.values.Frame.{Frame}
 use Rattle.frame.specs.Values.{domain_in}
-use Rattle.frame_read.specs.declared.Read.{Read}
-use Rattle.frame_read.specs.declared.Read.TheVariants.{Values, LengthNot8, NoSuchType}
 use Rattle.frame_read.specs.Read.{read_of}
 use Rattle.refusal.specs.declared.Refusal.{Refusal}
 use Rattle.refusal.specs.declared.Refusal.TheVariants.{Reading, Length, FrameType, Domain as another}
 use Rattle.settings.specs.declared.domain_settings.Role.{Role}
 use Rattle.domain.specs.declared.Domain.{Domain}
-use Rattle.slave_answer.specs.declared.FrameAnswer.TheVariants.{Refused}
 use Rattle.admission.specs.declared.Needed.{Needed}
 use Rattle.admission.specs.declared.Needed.TheVariants.{Master, Either}
-use Rattle.admission.specs.declared.Admission.TheVariants.{Admitted, Refused as not_admitted}
-use Rattle.admission.specs.declared.frames.FrameAdmission.TheVariants.{Refused as refused}
 use Rattle.admission.specs.Reading.{is_good_reading}
 use Rattle.admission.specs.Admission.{is_in, admitted_of}
 use Rattle.admission.specs.FrameAdmission.{read_for}
-use Rattle.call_frame.specs.declared.FrameCall.{FrameCall}
 use Rattle.call_frame.specs.FrameCall.{frame_call_as, frame_call_of}
-use Rattle.call_read.specs.declared.ReadAnswer.TheVariants as unread
-use Rattle.master_set.specs.declared.SetAnswer.TheVariants as unset
-use Rattle.master_confirm.specs.declared.ConfirmAnswer.TheVariants as unconfirmed
 use Rattle.node_call.specs.declared.CallAnswer.TheVariants as told
 use Rattle.apart_laws.specs.Apart.{OneCall, frame, read, set, confirm, Reply, Done, done_on}
+use Rattle.domain.specs.declared.DomainCall.{DomainCall}
+use Rattle.frame_read.specs.declared.NoFrame.{NoFrame}
+use Rattle.frame_read.specs.declared.NoFrame.TheVariants.{LengthNot8, NoSuchType}
+use Rattle.refusal.specs.Numbers.{Outcome}
+use Rattle.slave_answer.specs.declared.Taken.{Taken}
 
 -- ---- a refused frame
-abbrev refused_on : Domain → (kept : VirtualLocalTime) → Refusal → FrameCall
-refused_on d kept refusal = record { answer = Refused refusal; domain = d; kept = kept }
+abbrev refused_on : Domain → (kept : VirtualLocalTime) → Refusal → DomainCall (Outcome Taken)
+refused_on d kept refusal = record { answer = Err refusal; domain = d; kept = kept }
 
 -- ---- by what the bytes are: not for a record of this number
-abbrev pub NotFor : Read → (number : ℕ) → Type 0
-NotFor (Values values) number = domain_in values ≡ number → ⊥
-NotFor LengthNot8 number = Unit {0}
-NotFor NoSuchType number = Unit {0}
+abbrev pub NotFor : Result Frame NoFrame → (number : ℕ) → Type 0
+NotFor (Ok values) number = domain_in values ≡ number → ⊥
+NotFor (Err LengthNot8) number = Unit {0}
+NotFor (Err NoSuchType) number = Unit {0}
 
-abbrev by_read : Read → Refusal
-by_read (Values values) = another
-by_read LengthNot8 = Length
-by_read NoSuchType = FrameType
+abbrev by_read : Result Frame NoFrame → Refusal
+by_read (Ok values) = another
+by_read (Err LengthNot8) = Length
+by_read (Err NoSuchType) = FrameType
 
 module _ (d : Domain) (kept t : VirtualLocalTime) (bytes : List ℕ) where
-  abbrev At : Bool → Read → FrameCall
-  At good r = frame_call_as (cond good (read_for r d.number d.settings.role) (refused Reading)) d kept t bytes
+  abbrev At : Bool → Result Frame NoFrame → DomainCall (Outcome Taken)
+  At good r = frame_call_as (cond good (read_for r d.number d.settings.role) (Err Reading)) d kept t bytes
 
-  read_refused : (r : Read) → NotFor r d.number → At true r ≡ refused_on d kept (by_read r)
-  read_refused (Values values) n = rw (ne_eqb (domain_in values) d.number n)
-  read_refused LengthNot8 n = refl
-  read_refused NoSuchType n = refl
+  read_refused : (r : Result Frame NoFrame) → NotFor r d.number → At true r ≡ refused_on d kept (by_read r)
+  read_refused (Ok values) n = rw (ne_eqb (domain_in values) d.number n)
+  read_refused (Err LengthNot8) n = refl
+  read_refused (Err NoSuchType) n = refl
 
   frame_refused :
-      (good : Bool) (r : Read) → NotFor r d.number → At good r ≡ refused_on d kept (cond good (by_read r) Reading)
+      (good : Bool) (r : Result Frame NoFrame) → NotFor r d.number → At good r ≡ refused_on d kept (cond good (by_read r) Reading)
   frame_refused true r n = read_refused r n
   frame_refused false r n = refl
 
@@ -75,13 +72,13 @@ module _ (d : Domain) (kept t : VirtualLocalTime) (bytes : List ℕ) where
     pub wrong_length : (length bytes ≡ 8 → ⊥) → frame_call_of d kept t bytes ≡ refused_on d kept Length
     wrong_length n = rw (good, ne_eqb (length bytes) 8 n)
 
-    pub no_such_type : read_of bytes ≡ NoSuchType → frame_call_of d kept t bytes ≡ refused_on d kept FrameType
+    pub no_such_type : read_of bytes ≡ Err NoSuchType → frame_call_of d kept t bytes ≡ refused_on d kept FrameType
     no_such_type e = rw (good, e)
 
     pub another_record :
-        (values : Frame) → read_of bytes ≡ Values values → (domain_in values ≡ d.number → ⊥) →
+        (values : Frame) → read_of bytes ≡ Ok values → (domain_in values ≡ d.number → ⊥) →
         frame_call_of d kept t bytes ≡ refused_on d kept another
-    another_record values e n = rw (good, e) (read_refused (Values values) n)
+    another_record values e n = rw (good, e) (read_refused (Ok values) n)
 
 -- ---- a call of another domain
 abbrev by_domain : Bool → Refusal
@@ -89,13 +86,13 @@ by_domain good = cond good another Reading
 
 not_for_lem :
     (kept t : VirtualLocalTime) (own : ℕ) (role : Role) (asked : ℕ) (needed : Needed) → (asked ≡ own → ⊥) →
-    admitted_of kept t own role asked needed ≡ not_admitted (by_domain (is_good_reading kept t))
+    admitted_of kept t own role asked needed ≡ Err (by_domain (is_good_reading kept t))
 not_for_lem kept t own role asked needed n = go (is_good_reading kept t)
   where
     go :
         (good : Bool) →
-        cond good (cond (eqb asked own && is_in role needed) Admitted (not_admitted another)) (not_admitted Reading)
-        ≡ not_admitted (by_domain good)
+        ◌≡◌ {A = Outcome ⊤} (cond good (cond (eqb asked own && is_in role needed) (Ok tt) (Err another)) (Err Reading))
+        (Err (by_domain good))
     go true = rw (ne_eqb asked own n)
     go false = refl
 
@@ -109,15 +106,15 @@ Foreign (confirm domain t counter out) d = domain ≡ d.number → ⊥
 abbrev pub foreign_reply : (kept : VirtualLocalTime) → OneCall → Reply
 foreign_reply kept (frame t bytes) =
     record {
-      answer = told.Frame (Refused (cond (is_good_reading kept t) (by_read (read_of bytes)) Reading));
+      answer = told.Frame (Err (cond (is_good_reading kept t) (by_read (read_of bytes)) Reading));
       out = [];
     }
 foreign_reply kept (read domain t) =
-    record { answer = told.Read (unread.Refused (by_domain (is_good_reading kept t))); out = [] }
+    record { answer = told.Read (Err (by_domain (is_good_reading kept t))); out = [] }
 foreign_reply kept (set domain t s ns) =
-    record { answer = told.Set (unset.Refused (by_domain (is_good_reading kept t))); out = [] }
+    record { answer = told.Set (Err (by_domain (is_good_reading kept t))); out = [] }
 foreign_reply kept (confirm domain t counter out) =
-    record { answer = told.Confirm (unconfirmed.Refused (by_domain (is_good_reading kept t))); out = out }
+    record { answer = told.Confirm (Err (by_domain (is_good_reading kept t))); out = out }
 
 abbrev pub left_by : Domain → (kept : VirtualLocalTime) → OneCall → Done
 left_by d kept c = record { reply = foreign_reply kept c; domain = d; kept = kept }

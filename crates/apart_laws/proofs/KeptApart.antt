@@ -2,6 +2,7 @@
 --   number_stays   a call leaves the number of every record
 --   kept_apart     calls on one record each, at places that are right: the same answers and contents as the node
 -- Assumes nothing.
+use Rattle.std.specs.Prelude.{Err, Ok, Result}
 use Prim.Native.Nat.{ℕ, ◌%◌, ◌<◌, ◌≤◌}
 use mathlib.Core.Path.{◌≡◌, refl, sym, ap, subst, ◌∙◌}
 use mathlib.Core.Bool.{Bool, true, false}
@@ -14,8 +15,6 @@ use lib.ListN.{set as put}
 use lib.Seq.{set-get_or}
 use borrow.Author.Tests.{ltb-true, ltb-false}
 use Rattle.frame.specs.Values.{domain_in}
-use Rattle.frame_read.specs.declared.Read.{Read}
-use Rattle.frame_read.specs.declared.Read.TheVariants.{Values, LengthNot8, NoSuchType}
 use Rattle.frame_read.specs.Read.{named_domain, read_of}
 use Rattle.frame_read.proofs.Laws.{Names, read_names}
 use Rattle.settings.specs.Node.{places}
@@ -47,6 +46,9 @@ use Rattle.apart_laws.specs.Apart.{
   AsNode,
 }
 use Rattle.apart_laws.proofs.Foreign.{NotFor, Foreign, left_by, foreign_done}
+use Rattle.frame.specs.declared.values.Frame.{Frame}
+use Rattle.frame_read.specs.declared.NoFrame.{NoFrame}
+use Rattle.frame_read.specs.declared.NoFrame.TheVariants.{LengthNot8, NoSuchType}
 
 -- ---- one record per domain, whatever is called
 
@@ -122,15 +124,15 @@ module _ (n : Node) (one : OneEach n.domains) (i : ℕ) (below : i < places) whe
           inr (above asked i below large, above asked (asked % places) (mod-lt asked (omega arith)) large)
 
   read_alike :
-      (bytes : List ℕ) (r : Read) → Names bytes r → IsRightFor r i →
+      (bytes : List ℕ) (r : Result Frame NoFrame) → Names bytes r → IsRightFor r i →
       let j = named_domain bytes % places in (i ≡ j) ⊎ (NotFor r (here i).number × NotFor r (here j).number)
-  read_alike bytes (Values values) e right =
+  read_alike bytes (Ok values) e right =
       subst (λ (x : ℕ).
       (i ≡ x % places)
       ⊎ ((domain_in values ≡ (here i).number → ⊥) × (domain_in values ≡ (here (x % places)).number → ⊥)))
       e (domain_alike (domain_in values) right)
-  read_alike bytes LengthNot8 e right = inr (tt, tt)
-  read_alike bytes NoSuchType e right = inr (tt, tt)
+  read_alike bytes (Err LengthNot8) e right = inr (tt, tt)
+  read_alike bytes (Err NoSuchType) e right = inr (tt, tt)
 
   alike : (c : OneCall) → IsRight (record { place = i; call = c }) → Alike c
   alike (frame t bytes) p = read_alike bytes (read_of bytes) (read_names bytes) p.1

@@ -6,18 +6,16 @@
 --   calls_met            calls of the bench, with junk and a domain above 15 on other records, and their numbers
 --   not_met              P1 on another record than its own is refused: the place matters
 -- Assumes nothing.
+use Rattle.std.specs.Prelude.{Err, Ok, Result}
 use Prim.Native.Nat.{ℕ, ◌%◌, ◌<◌}
 use mathlib.Core.Path.{◌≡◌, refl, sym, ap, subst, ◌∙◌}
 use mathlib.Core.List.{List, [], ◌∷◌, map}
 use native.Mathlib.Nat.{mod-eq_of_lt, mod-lt}
 use native.Mathlib.Omega.{arith}
 use Rattle.clock.specs.declared.reading.VirtualLocalTime.{VirtualLocalTime}
-use Rattle.frame_read.specs.declared.Read.{Read}
-use Rattle.frame_read.specs.declared.Read.TheVariants.{Values, LengthNot8, NoSuchType}
 use Rattle.frame_read.specs.Read.{named_domain, read_of}
 use Rattle.frame_read.proofs.Laws.{Names, read_names}
 use Rattle.settings.specs.declared.node_settings.NodeSettings.{NodeSettings}
-use Rattle.settings.specs.declared.node_settings.Verdict.TheVariants.{Good}
 use Rattle.settings.specs.Node.{places, judged_of}
 use Rattle.node.specs.declared.Node.{Node}
 use Rattle.node.specs.New.{new_of}
@@ -46,6 +44,9 @@ use Rattle.apart_laws.specs.Apart.{
   fresh_apart,
 }
 use Rattle.apart_laws.proofs.KeptApart.{kept_apart}
+use Rattle.frame.specs.declared.values.Frame.{Frame}
+use Rattle.frame_read.specs.declared.NoFrame.{NoFrame}
+use Rattle.frame_read.specs.declared.NoFrame.TheVariants.{LengthNot8, NoSuchType}
 
 -- ---- the nodes
 
@@ -60,10 +61,10 @@ pick_below (read domain t) = mod-lt domain (omega arith)
 pick_below (set domain t s ns) = mod-lt domain (omega arith)
 pick_below (confirm domain t counter out) = mod-lt domain (omega arith)
 
-read_right : (bytes : List ℕ) (r : Read) → Names bytes r → IsRightFor r (named_domain bytes % places)
-read_right bytes (Values values) e = λ below. ap (λ (x : ℕ). x % places) (sym e) ∙ mod-eq_of_lt below
-read_right bytes LengthNot8 e = tt
-read_right bytes NoSuchType e = tt
+read_right : (bytes : List ℕ) (r : Result Frame NoFrame) → Names bytes r → IsRightFor r (named_domain bytes % places)
+read_right bytes (Ok values) e = λ below. ap (λ (x : ℕ). x % places) (sym e) ∙ mod-eq_of_lt below
+read_right bytes (Err LengthNot8) e = tt
+read_right bytes (Err NoSuchType) e = tt
 
 pub pick_right : (c : OneCall) → IsRight (picked c)
 pick_right (frame t bytes) = (pick_below (frame t bytes), read_right bytes (read_of bytes) (read_names bytes))
@@ -82,7 +83,7 @@ picked_apart n r cs = kept_apart n (reachable_one_each n r) (map picked cs) (all
 -- ---- records that the product makes itself
 
 pub kept_apart_new :
-    (s : NodeSettings) → IsSettings s → judged_of s ≡ Good → (ps : List Placed) → AllRight ps →
+    (s : NodeSettings) → IsSettings s → judged_of s ≡ Ok tt → (ps : List Placed) → AllRight ps →
     AsNode (fresh_apart s.domains) (new_of s).node ps
 kept_apart_new s is good ps right =
     let n = (new_of s).node in

@@ -4,6 +4,7 @@
 --   set_done       that of `set_call`
 --   confirm_done   that of `confirm_call`, the lent bytes after it among that
 -- Assumes nothing.
+use Rattle.std.specs.Prelude.{⊤}
 use Prim.Native.Nat.{ℕ}
 use mathlib.Core.Path.{◌≡◌, ap, ◌∙◌}
 use mathlib.Core.List.{List, []}
@@ -11,15 +12,16 @@ use Rattle.clock.specs.declared.reading.VirtualLocalTime.{VirtualLocalTime}
 use Rattle.domain.specs.declared.Domain.{Domain}
 use Rattle.lent_frame.specs.declared.LentFrame.{LentFrame}
 use Rattle.lent_frame.specs.Lent.{TakenOn}
-use Rattle.call_read.specs.declared.ReadAnswer.{ReadAnswer}
 use Rattle.call_read.specs.ReadCall.{read_call_of}
-use Rattle.call_set.specs.declared.SetCall.{SetCall}
 use Rattle.call_set.specs.SetCall.{set_call_of}
-use Rattle.call_confirm.specs.declared.ConfirmCall.{ConfirmCall}
 use Rattle.call_confirm.specs.ConfirmCall.{confirm_bytes, ConfirmedIn}
 use Rattle.node_call.specs.declared.CallAnswer.{CallAnswer}
 use Rattle.node_call.specs.declared.CallAnswer.TheVariants as told
 use Rattle.apart_laws.specs.Apart.{frame, read, set, confirm, Done, done_on}
+use Rattle.call_read.specs.declared.Shown.{Shown}
+use Rattle.domain.specs.declared.DomainCall.{DomainCall}
+use Rattle.frame.specs.declared.values.Fup.{Fup}
+use Rattle.refusal.specs.Numbers.{Outcome}
 
 -- ---- what a call gave, as `Done`
 abbrev gave : CallAnswer → (out : List ℕ) → Domain → (kept : VirtualLocalTime) → Done
@@ -32,21 +34,21 @@ module _ (d : Domain) (kept t : VirtualLocalTime) where
   frame_done bytes r after p = λ i. gave (told.Frame (p.call i).answer) [] (p.domain i) (p.call i).kept
 
   pub read_done :
-      (domain : ℕ) (r : ReadAnswer) → r ≡ read_call_of d kept domain t →
+      (domain : ℕ) (r : Outcome Shown) → r ≡ read_call_of d kept domain t →
       gave (told.Read r) [] d kept ≡ done_on d kept (read domain t)
-  read_done domain r p = ap (λ (r : ReadAnswer). gave (told.Read r) [] d kept) p
+  read_done domain r p = ap (λ (r : Outcome Shown). gave (told.Read r) [] d kept) p
 
   pub set_done :
-      (domain seconds nanoseconds : ℕ) (r : SetCall) → r ≡ set_call_of d kept domain t seconds nanoseconds →
+      (domain seconds nanoseconds : ℕ) (r : DomainCall (Outcome ⊤)) → r ≡ set_call_of d kept domain t seconds nanoseconds →
       gave (told.Set r.answer) [] r.domain r.kept ≡ done_on d kept (set domain t seconds nanoseconds)
   set_done domain seconds nanoseconds r p =
-      ap (λ (r : SetCall). gave (told.Set r.answer) [] r.domain r.kept) p
+      ap (λ (r : DomainCall (Outcome ⊤)). gave (told.Set r.answer) [] r.domain r.kept) p
 
   pub confirm_done :
-      (domain counter : ℕ) (out : List ℕ) (r : ConfirmCall) (after : List ℕ) →
+      (domain counter : ℕ) (out : List ℕ) (r : DomainCall (Outcome Fup)) (after : List ℕ) →
       ConfirmedIn d kept domain t counter out r after →
       gave (told.Confirm r.answer) after r.domain r.kept ≡ done_on d kept (confirm domain t counter out)
   confirm_done domain counter out r after p =
       ap (λ (bytes : List ℕ). gave (told.Confirm r.answer) bytes r.domain r.kept) p.bytes
-      ∙ ap (λ (r : ConfirmCall).
+      ∙ ap (λ (r : DomainCall (Outcome Fup)).
       gave (told.Confirm r.answer) (confirm_bytes r.answer d.settings.ids out) r.domain r.kept) p.call

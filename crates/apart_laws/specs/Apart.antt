@@ -1,10 +1,8 @@
 -- Paper 02, request 11: "keeping one such record per domain", "the kept reading passed beside them": what a product
 -- does that has sixteen records and no node. Assumes nothing.
-use Rattle.std.specs.Prelude.{ℕ, ◌%◌, ◌<◌, ◌≡◌, List, [], ◌∷◌, map, length, set as put}
+use Rattle.std.specs.Prelude.{ℕ, ◌%◌, ◌<◌, ◌≡◌, List, [], ◌∷◌, map, length, set as put, Err, Ok, Result}
 use Rattle.clock.specs.declared.reading.VirtualLocalTime.{VirtualLocalTime}
 use Rattle.frame.specs.Values.{domain_in}
-use Rattle.frame_read.specs.declared.Read.{Read}
-use Rattle.frame_read.specs.declared.Read.TheVariants.{Values, LengthNot8, NoSuchType}
 use Rattle.frame_read.specs.Read.{read_of}
 use Rattle.settings.specs.declared.domain_settings.DomainSettings.{DomainSettings}
 use Rattle.settings.specs.Node.{places}
@@ -21,6 +19,9 @@ use Rattle.node_call.specs.declared.CallAnswer.{CallAnswer}
 use Rattle.node_call.specs.declared.CallAnswer.TheVariants as told
 use Rattle.node_call.specs.Calls.{Call, node_after, node_after_all, answer_of, bytes_after, lent_to}
 use Rattle.node_call.specs.Calls as node
+use Rattle.frame.specs.declared.values.Frame.{Frame}
+use Rattle.frame_read.specs.declared.NoFrame.{NoFrame}
+use Rattle.frame_read.specs.declared.NoFrame.TheVariants.{LengthNot8, NoSuchType}
 
 -- ---- A call that one record takes. A main cycle is none: it goes round all of them.
 pub data OneCall : Type 0 where
@@ -101,10 +102,10 @@ apart_replies a (p ∷ rest) = (done_in a p).reply ∷ apart_replies (apart_afte
 
 -- ---- The place is right: a call for a domain from 0 to 15 is made on that domain's record; bytes that are no frame,
 -- and a call for a domain above 15, on any.
-abbrev pub IsRightFor : Read → (place : ℕ) → Type 0
-IsRightFor (Values values) place = domain_in values < places → place ≡ domain_in values
-IsRightFor LengthNot8 place = Unit {0}
-IsRightFor NoSuchType place = Unit {0}
+abbrev pub IsRightFor : Result Frame NoFrame → (place : ℕ) → Type 0
+IsRightFor (Ok values) place = domain_in values < places → place ≡ domain_in values
+IsRightFor (Err LengthNot8) place = Unit {0}
+IsRightFor (Err NoSuchType) place = Unit {0}
 
 abbrev pub IsRightOn : OneCall → (place : ℕ) → Type 0
 IsRightOn (frame t bytes) place = IsRightFor (read_of bytes) place

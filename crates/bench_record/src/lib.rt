@@ -12,39 +12,32 @@ use clock::VirtualLocalTime;
 use node_call::Request;
 use text::fields::{byte_at, long_at, word_at};
 
-// What a record asks for.
-#[derive(Drop)]
-pub enum Asked {
-    Call(Request),
-    // A wrong mark or kind.
-    Bad,
-}
-
-pub fn asked_by(bytes: &[u8]) -> Asked
+// The call that a record asks for: none by a wrong mark or kind.
+pub fn asked_by(bytes: &[u8]) -> Option<Request>
     ensures { result ≡ asked_by bytes.now }
 {
     if byte_at(bytes, 0) != 0xC7 {
-        return Asked::Bad;
+        return None;
     }
     if byte_at(bytes, 1) != 0x3A {
-        return Asked::Bad;
+        return None;
     }
     request(bytes)
 }
 
 // By the kind.
-fn request(bytes: &[u8]) -> Asked
+fn request(bytes: &[u8]) -> Option<Request>
     ensures { result ≡ request_of bytes.now }
 {
     let domain = byte_at(bytes, 3);
     let t = VirtualLocalTime(long_at(bytes, 4));
     match byte_at(bytes, 2) {
-        1 => Asked::Call(Request::Frame(t)),
-        2 => Asked::Call(Request::Read(domain, t)),
-        3 => Asked::Call(Request::Set(domain, t, word_at(bytes, 12), word_at(bytes, 16))),
-        4 => Asked::Call(Request::Cycle(t)),
-        5 => Asked::Call(Request::Confirm(domain, t, byte_at(bytes, 12))),
-        _ => Asked::Bad,
+        1 => Some(Request::Frame(t)),
+        2 => Some(Request::Read(domain, t)),
+        3 => Some(Request::Set(domain, t, word_at(bytes, 12), word_at(bytes, 16))),
+        4 => Some(Request::Cycle(t)),
+        5 => Some(Request::Confirm(domain, t, byte_at(bytes, 12))),
+        _ => None,
     }
 }
 

@@ -2,25 +2,22 @@
 ghost use Rattle.bench_record.specs.Step.{Ended};
 
 use node::Node;
-use text::lines::put_bad;
+use text::Out;
 
 #[derive(Drop)]
 pub struct Step {
     pub node: Node,
-    // Where the line ends.
-    pub at: usize,
     // Whether the run goes on.
     pub goes_on: bool,
 }
 
 // A bad record: its line, and the end of the run. The node stays as it was.
-pub fn bad_record(node: Node, item: u64, out: &mut [u8], at: usize) -> Step
-    ensures { Ended node item at out.old result out.new }
+pub fn bad_record(node: Node, item: u64, out: &mut Out) -> Step
+    ensures { Ended node item out.old result out.new }
 {
-    let end = put_bad(out, at, item);
+    out.put_bad(item);
     Step {
         node,
-        at: end,
         goes_on: false,
     }
 }

@@ -4,35 +4,19 @@
 ghost use Rattle.std.specs.Prelude.{◌≡◌};
 ghost use Rattle.bench_settings.specs.Bench.{slave_with, bench_master, bench_with};
 
-use frame::DataIds;
 use frame_check::CheckMode;
-use settings::{DomainSettings, NodeSettings, Role, Security, UserBytes};
+use settings::{DomainSettings, NodeSettings, Role};
 
 // S 1; domain 1 a slave, domain 2 a master, the others absent.
 pub fn bench_settings() -> NodeSettings
     ensures { result ≡ bench_with 2 }
 {
-    let absent = DomainSettings::absent();
+    let mut domains = [DomainSettings::absent(); NodeSettings::DOMAINS];
+    domains[1] = slave();
+    domains[2] = master();
     NodeSettings {
         syncs_per_cycle: 1,
-        domains: [
-            absent,
-            slave(),
-            master(),
-            absent,
-            absent,
-            absent,
-            absent,
-            absent,
-            absent,
-            absent,
-            absent,
-            absent,
-            absent,
-            absent,
-            absent,
-            absent,
-        ],
+        domains,
     }
 }
 
@@ -45,19 +29,11 @@ fn slave() -> DomainSettings
         loss_time: 2_000_000_000,
         future_threshold: 500_000_000,
         past_threshold: 500_000_000,
-        period: 0,
-        confirmation_time: 0,
-        ids: DataIds {
-            sync: [0; 16],
-            fup: [0; 16],
-        },
         role: Role::Slave,
         mode: CheckMode::NotValidated,
         jump_width: 2,
-        hysteresis: 0,
         clear_count: 1,
-        security: Security::Plain,
-        user: UserBytes(0, 0, 0),
+        ..DomainSettings::absent()
     }
 }
 
@@ -66,22 +42,9 @@ fn master() -> DomainSettings
     ensures { result ≡ bench_master }
 {
     DomainSettings {
-        follow_up_time: 0,
-        loss_time: 0,
-        future_threshold: 0,
-        past_threshold: 0,
         period: 1_000_000_000,
         confirmation_time: 200_000_000,
-        ids: DataIds {
-            sync: [0; 16],
-            fup: [0; 16],
-        },
         role: Role::Master,
-        mode: CheckMode::Validated,
-        jump_width: 0,
-        hysteresis: 0,
-        clear_count: 0,
-        security: Security::Plain,
-        user: UserBytes(0, 0, 0),
+        ..DomainSettings::absent()
     }
 }

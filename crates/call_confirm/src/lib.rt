@@ -4,19 +4,13 @@
 ghost use Rattle.std.specs.Prelude.{◌≡◌};
 ghost use Rattle.call_confirm.specs.ConfirmCall.{ConfirmedIn};
 
-use admission::{Admission, Needed, admit, kept_after};
+use admission::{Needed, admit, kept_after};
 use clock::VirtualLocalTime;
-use domain::Domain;
-use frame::Frame;
+use domain::{Domain, DomainCall};
+use frame::{Frame, Fup};
 use frame_write::write_frame;
-use master_confirm::{ConfirmAnswer, confirm};
-
-#[derive(Drop)]
-pub struct ConfirmCall {
-    pub answer: ConfirmAnswer,
-    pub domain: Domain,
-    pub kept: VirtualLocalTime,
-}
+use master_confirm::confirm;
+use refusal::{Numbered, Outcome};
 
 // 1, 4, 11, 12. The FUP is written at the start of `out`; all other bytes stay.
 pub fn confirm_call(
@@ -26,31 +20,27 @@ pub fn confirm_call(
     t: VirtualLocalTime,
     counter: u8,
     out: &mut [u8],
-) -> ConfirmCall
+) -> DomainCall<Outcome<Fup>>
     ensures { ConfirmedIn domain kept asked t counter out.old result out.new }
 {
     let settings = domain.settings;
-    let role = settings.role;
-    match admit(kept, t, domain.number, role, asked, Needed::Master) {
-        Admission::Refused(refusal) => ConfirmCall {
-            answer: ConfirmAnswer::Refused(refusal),
+    match admit(kept, t, domain.number, settings.role, asked, Needed::Master) {
+        Err(refusal) => DomainCall {
+            answer: Err(refusal),
             domain,
             kept,
         },
-        Admission::Admitted => {
+        Ok(()) => {
             let step = confirm(domain, t, counter, 8 <= out.len());
-            let answer = step.answer;
-            let after = step.domain;
-            let call = ConfirmCall {
-                answer,
-                domain: after,
-                kept: kept_after(answer.number(), kept, t),
+            let call = DomainCall {
+                answer: step.answer,
+                domain: step.domain,
+                kept: kept_after(step.answer.number(), kept, t),
             };
-            let ConfirmAnswer::Followed(fup) = answer else {
+            let Ok(fup) = step.answer else {
                 return call;
             };
-            let ids = settings.ids;
-            write_frame(Frame::Fup(fup), ids, out, 0);
+            let _ = write_frame(Frame::Fup(fup), settings.ids, out, 0);
             call
         }
     }

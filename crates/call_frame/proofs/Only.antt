@@ -8,10 +8,12 @@ use Rattle.promise.specs.Only.{OnlyOne}
 use Rattle.promise.proofs.Laws.{equation_only}
 use Rattle.clock.specs.declared.reading.VirtualLocalTime.{VirtualLocalTime}
 use Rattle.domain.specs.declared.Domain.{Domain}
-use Rattle.call_frame.specs.declared.FrameCall.{FrameCall}
 use Rattle.call_frame.specs.FrameCall.{frame_call_of}
+use Rattle.domain.specs.declared.DomainCall.{DomainCall}
+use Rattle.refusal.specs.Numbers.{Outcome}
+use Rattle.slave_answer.specs.declared.Taken.{Taken}
 
 pub frame_call_only :
     (d : Domain) (kept t : VirtualLocalTime) (bytes : List ℕ) →
-    OnlyOne (λ (r : FrameCall). r ≡ frame_call_of d kept t bytes)
+    OnlyOne (λ (r : DomainCall (Outcome Taken)). r ≡ frame_call_of d kept t bytes)
 frame_call_only d kept t bytes = equation_only _

@@ -4,18 +4,12 @@
 ghost use Rattle.std.specs.Prelude.{◌≡◌};
 ghost use Rattle.call_frame.specs.FrameCall.{frame_kept, frame_call_of};
 
-use admission::{FrameAdmission, admit_frame, kept_after};
+use admission::{admit_frame, kept_after};
 use clock::VirtualLocalTime;
-use domain::Domain;
-use slave_answer::FrameAnswer;
+use domain::{Domain, DomainCall};
+use refusal::{Numbered, Outcome};
+use slave_answer::Taken;
 use slave_frame::take_frame;
-
-#[derive(Drop)]
-pub struct FrameCall {
-    pub answer: FrameAnswer,
-    pub domain: Domain,
-    pub kept: VirtualLocalTime,
-}
 
 // 1, 2, 3, 4, 5; then 6, 15, or 7, 8, 9.
 pub fn frame_call(
@@ -23,25 +17,21 @@ pub fn frame_call(
     kept: VirtualLocalTime,
     t: VirtualLocalTime,
     bytes: &[u8],
-) -> FrameCall
+) -> DomainCall<Outcome<Taken>>
     ensures { result ≡ frame_call_of domain kept t bytes.now }
 {
-    let settings = domain.settings;
-    let role = settings.role;
-    match admit_frame(kept, t, domain.number, role, bytes) {
-        FrameAdmission::Refused(refusal) => FrameCall {
-            answer: FrameAnswer::Refused(refusal),
+    match admit_frame(kept, t, domain.number, domain.settings.role, bytes) {
+        Err(refusal) => DomainCall {
+            answer: Err(refusal),
             domain,
             kept,
         },
-        FrameAdmission::Admitted(values) => {
+        Ok(values) => {
             let step = take_frame(domain, t, bytes, values);
-            let answer = step.answer;
-            let after = step.domain;
-            FrameCall {
-                answer,
-                domain: after,
-                kept: frame_kept(answer.number(), kept, t),
+            DomainCall {
+                answer: step.answer,
+                domain: step.domain,
+                kept: frame_kept(step.answer.number(), kept, t),
             }
         }
     }

@@ -7,14 +7,11 @@ use Rattle.promise.specs.Only.{OnlyOne}
 use Rattle.promise.proofs.Laws.{equation_only}
 use Rattle.clock.specs.declared.reading.VirtualLocalTime.{VirtualLocalTime}
 use Rattle.domain.specs.declared.Domain.{Domain}
-use Rattle.call_read.specs.declared.ReadAnswer.{ReadAnswer}
 use Rattle.call_read.specs.ReadCall.{read_call_of}
-use Rattle.call_read.specs.Answer.{read_number}
+use Rattle.call_read.specs.declared.Shown.{Shown}
+use Rattle.refusal.specs.Numbers.{Outcome, outcome_number}
 
 pub read_call_only :
     (d : Domain) (kept : VirtualLocalTime) (asked : ℕ) (t : VirtualLocalTime) →
-    OnlyOne (λ (r : ReadAnswer). r ≡ read_call_of d kept asked t)
+    OnlyOne (λ (r : Outcome Shown). r ≡ read_call_of d kept asked t)
 read_call_only d kept asked t = equation_only _
-
-pub number_only : (answer : ReadAnswer) → OnlyOne (λ (r : ℕ). r ≡ read_number answer)
-number_only answer = equation_only _

@@ -1,23 +1,18 @@
 -- Paper 01: a read of one record: 1, 4 (`admitted_of`), 10. Assumes nothing.
-use Rattle.std.specs.Prelude.{ℕ}
+use Rattle.std.specs.Prelude.{ℕ, Err, None, Ok, Option, Some, ⊤}
 use Rattle.clock.specs.declared.reading.VirtualLocalTime.{VirtualLocalTime}
 use Rattle.clock.specs.declared.base.TimeBase.{TimeBase}
-use Rattle.clock.specs.declared.base.Held.{Held}
-use Rattle.clock.specs.declared.base.Held.TheVariants.{Unset, Set}
 use Rattle.clock.specs.Base.{time_at}
 use Rattle.refusal.specs.declared.Refusal.TheVariants.{NeverSet}
 use Rattle.settings.specs.declared.domain_settings.Role.{Role}
 use Rattle.settings.specs.declared.domain_settings.Role.TheVariants.{Absent, Slave, Master}
 use Rattle.settings.specs.declared.domain_settings.UserBytes.{UserBytes}
-use Rattle.admission.specs.declared.Admission.{Admission}
-use Rattle.admission.specs.declared.Admission.TheVariants.{Admitted, Refused as refused}
 use Rattle.admission.specs.declared.Needed.TheVariants.{Either}
 use Rattle.admission.specs.Admission.{admitted_of}
 use Rattle.domain.specs.declared.Domain.{Domain}
 use Rattle.slave_status.specs.Status.{status_of}
 use Rattle.call_read.specs.declared.Shown.{Shown}
-use Rattle.call_read.specs.declared.ReadAnswer.{ReadAnswer}
-use Rattle.call_read.specs.declared.ReadAnswer.TheVariants.{Time, Refused}
+use Rattle.refusal.specs.Numbers.{Outcome}
 
 -- ---- A master: "status 0x08", "A read gives the settings' user bytes."
 abbrev pub status_for : Role → ℕ → ℕ
@@ -40,14 +35,14 @@ shown_of d b t =
       updates = d.updates;
     }
 
-abbrev pub read_as : Held → Domain → VirtualLocalTime → ReadAnswer
-read_as Unset d t = Refused NeverSet
-read_as (Set b) d t = Time (shown_of d b t)
+abbrev pub read_as : Option TimeBase → Domain → VirtualLocalTime → Outcome Shown
+read_as None d t = Err NeverSet
+read_as (Some b) d t = Ok (shown_of d b t)
 
-abbrev pub read_call_as : Admission → Domain → VirtualLocalTime → ReadAnswer
-read_call_as (refused refusal) d t = Refused refusal
-read_call_as Admitted d t = read_as d.base d t
+abbrev pub read_call_as : Outcome ⊤ → Domain → VirtualLocalTime → Outcome Shown
+read_call_as (Err refusal) d t = Err refusal
+read_call_as (Ok tt) d t = read_as d.base d t
 
-abbrev pub read_call_of : Domain → (kept : VirtualLocalTime) (asked : ℕ) (t : VirtualLocalTime) → ReadAnswer
+abbrev pub read_call_of : Domain → (kept : VirtualLocalTime) (asked : ℕ) (t : VirtualLocalTime) → Outcome Shown
 read_call_of d kept asked t =
     read_call_as (admitted_of kept t d.number d.settings.role asked Either) d t

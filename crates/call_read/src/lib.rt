@@ -3,15 +3,14 @@
 #![tactic(auto)]
 
 ghost use Rattle.std.specs.Prelude.{◌≡◌};
-ghost use Rattle.call_read.specs.Answer.{read_number};
 ghost use Rattle.call_read.specs.ReadCall.{status_for, user_for, read_call_of};
 
-use admission::{Admission, Needed, admit};
-use clock::{GlobalTime, Held, VirtualLocalTime};
+use admission::{Needed, admit};
+use clock::{GlobalTime, VirtualLocalTime};
 use domain::Domain;
-use refusal::Refusal;
+use refusal::{Outcome, Refusal};
 use settings::{Role, UserBytes};
-use slave_status::status_at;
+use slave_status::{GLOBAL_TIME_BASE, status_at};
 
 // What a read shows.
 #[derive(Clone, Copy)]
@@ -22,54 +21,25 @@ pub struct Shown {
     pub updates: u8,
 }
 
-#[derive(Clone, Copy)]
-pub enum ReadAnswer {
-    Time(Shown),
-    Refused(Refusal),
-}
-
-impl ReadAnswer {
-    // The paper's number.
-    pub fn number(self) -> u8
-        ensures { result ≡ read_number self }
-    {
-        match self {
-            ReadAnswer::Time(_) => 0,
-            ReadAnswer::Refused(refusal) => refusal.number(),
-        }
-    }
-}
-
 // 1, 4, 10.
 pub fn read_call(
     domain: Domain,
     kept: VirtualLocalTime,
     asked: u8,
     t: VirtualLocalTime,
-) -> ReadAnswer
+) -> Outcome<Shown>
     ensures { result ≡ read_call_of domain kept asked t }
 {
     let settings = domain.settings;
     let role = settings.role;
-    match admit(kept, t, domain.number, role, asked, Needed::Either) {
-        Admission::Refused(refusal) => ReadAnswer::Refused(refusal),
-        Admission::Admitted => {
-            let base = domain.base;
-            match base {
-                Held::Unset => ReadAnswer::Refused(Refusal::NeverSet),
-                Held::Set(set) => {
-                    let sent = settings.user;
-                    let stored = domain.user;
-                    ReadAnswer::Time(Shown {
-                        time: set.time_at(t),
-                        status: status_for(role, status_at(domain, t)),
-                        user: user_for(role, sent, stored),
-                        updates: domain.updates,
-                    })
-                }
-            }
-        }
-    }
+    admit(kept, t, domain.number, role, asked, Needed::Either)?;
+    let base = domain.base.ok_or(Refusal::NeverSet)?;
+    Ok(Shown {
+        time: base.time_at(t),
+        status: status_for(role, status_at(domain, t)),
+        user: user_for(role, settings.user, domain.user),
+        updates: domain.updates,
+    })
 }
 
 // A master whose base is set shows that alone.
@@ -77,9 +47,8 @@ fn status_for(role: Role, status: u8) -> u8
     ensures { result ≡ status_for role status }
 {
     match role {
-        Role::Absent => status,
-        Role::Slave => status,
-        Role::Master => 0x08,
+        Role::Absent | Role::Slave => status,
+        Role::Master => GLOBAL_TIME_BASE,
     }
 }
 
@@ -88,8 +57,7 @@ fn user_for(role: Role, sent: UserBytes, stored: UserBytes) -> UserBytes
     ensures { result ≡ user_for role sent stored }
 {
     match role {
-        Role::Absent => stored,
-        Role::Slave => stored,
+        Role::Absent | Role::Slave => stored,
         Role::Master => sent,
     }
 }

@@ -4,17 +4,11 @@
 ghost use Rattle.std.specs.Prelude.{◌≡◌};
 ghost use Rattle.call_set.specs.SetCall.{set_call_of};
 
-use admission::{Admission, Needed, admit, kept_after};
+use admission::{Needed, admit, kept_after};
 use clock::VirtualLocalTime;
-use domain::Domain;
-use master_set::{SetAnswer, set_time};
-
-#[derive(Drop)]
-pub struct SetCall {
-    pub answer: SetAnswer,
-    pub domain: Domain,
-    pub kept: VirtualLocalTime,
-}
+use domain::{Domain, DomainCall};
+use master_set::set_time;
+use refusal::{Numbered, Outcome};
 
 // 1, 4, 9.
 pub fn set_call(
@@ -24,25 +18,28 @@ pub fn set_call(
     t: VirtualLocalTime,
     seconds: u32,
     nanoseconds: u32,
-) -> SetCall
+) -> DomainCall<Outcome<()>>
     ensures { result ≡ set_call_of domain kept asked t seconds nanoseconds }
 {
-    let settings = domain.settings;
-    let role = settings.role;
-    match admit(kept, t, domain.number, role, asked, Needed::Master) {
-        Admission::Refused(refusal) => SetCall {
-            answer: SetAnswer::Refused(refusal),
+    match admit(
+        kept,
+        t,
+        domain.number,
+        domain.settings.role,
+        asked,
+        Needed::Master,
+    ) {
+        Err(refusal) => DomainCall {
+            answer: Err(refusal),
             domain,
             kept,
         },
-        Admission::Admitted => {
+        Ok(()) => {
             let step = set_time(domain, t, seconds, nanoseconds);
-            let answer = step.answer;
-            let after = step.domain;
-            SetCall {
-                answer,
-                domain: after,
-                kept: kept_after(answer.number(), kept, t),
+            DomainCall {
+                answer: step.answer,
+                domain: step.domain,
+                kept: kept_after(step.answer.number(), kept, t),
             }
         }
     }

@@ -1,16 +1,14 @@
 -- Paper 01, "A slave's domain": the order of two global times, and their difference D. Assumes nothing.
-use Rattle.std.specs.Prelude.{ℕ, suc, ◌-◌, ◌^◌, min, Bool, false, cond, ltb, ℤ, pos, negsuc}
+use Rattle.std.specs.Prelude.{ℕ, suc, ◌-◌, ◌^◌, min, Bool, false, ltb, ℤ, pos, negsuc}
 use Rattle.std.proofs.Math.IntN.{sub_ℕ}
 use Rattle.clock.specs.declared.time.GlobalTime.{GlobalTime}
 use Rattle.clock.specs.Time.{nanoseconds_of}
-use Rattle.clock.specs.declared.difference.TimeOrder.{TimeOrder}
-use Rattle.clock.specs.declared.difference.TimeOrder.TheVariants.{Earlier, Same, Later}
+use Rattle.std.specs.Ordering.{nat_cmp}
+use Rattle.std.specs.declared.cmp.Ordering.{Ordering}
 
--- ---- The order of two times.
-abbrev pub order_of : GlobalTime → GlobalTime → TimeOrder
-order_of a b =
-    cond (ltb (nanoseconds_of a) (nanoseconds_of b)) Earlier
-    (cond (ltb (nanoseconds_of b) (nanoseconds_of a)) Later Same)
+-- ---- The order of two times, by all of their nanoseconds: earlier is `Less`, the same `Equal`, later `Greater`.
+abbrev pub order_of : GlobalTime → GlobalTime → Ordering
+order_of a b = nat_cmp (nanoseconds_of a) (nanoseconds_of b)
 
 -- ---- "let D be the new time minus the old": in signed 64 bits, held at the nearer end.
 abbrev pub held : ℤ → ℤ

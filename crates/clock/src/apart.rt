@@ -7,6 +7,7 @@ ghost use Rattle.clock.specs.Time.{time_of};
 use crate::GlobalTime;
 
 // How far a time stands from another, held within 63 bits: m nanoseconds ahead, or m + 1 behind.
+// Its own enum: two ways to stand, neither an error nor an absence, so `Result` or `Option` is no plainer.
 #[derive(Drop)]
 pub enum Apart {
     Ahead(u64),
@@ -25,40 +26,27 @@ pub(crate) fn compare_parts(a: GlobalTime, seconds: u64, nanoseconds: u64) -> Ap
     ensures { result ≡ apart_of a (time_of seconds nanoseconds) }
 {
     let more = a.1 as u64;
-    if seconds <= a.0 {
-        let lead = near_span(a.0 - seconds) + more;
-        if nanoseconds <= lead {
-            Apart::Ahead(held_span(lead - nanoseconds))
-        } else {
-            Apart::Behind(held_span(nanoseconds - (lead + 1)))
-        }
+    let (lead, lag) = if seconds <= a.0 {
+        (near_span(a.0 - seconds) + more, nanoseconds)
     } else {
-        let lag = near_span(seconds - a.0) + nanoseconds;
-        if lag <= more {
-            Apart::Ahead(held_span(more - lag))
-        } else {
-            Apart::Behind(held_span(lag - (more + 1)))
-        }
+        (more, near_span(seconds - a.0) + nanoseconds)
+    };
+    if lag <= lead {
+        Apart::Ahead(held_span(lead - lag))
+    } else {
+        Apart::Behind(held_span(lag - (lead + 1)))
     }
 }
 
 fn held_span(m: u64) -> u64
     ensures { result ≡ held_span m }
 {
-    if m < 0x7FFF_FFFF_FFFF_FFFF {
-        m
-    } else {
-        0x7FFF_FFFF_FFFF_FFFF
-    }
+    m.min(0x7FFF_FFFF_FFFF_FFFF)
 }
 
 // Seconds in nanoseconds, where 11 * 10^9 stand for more: less 2^60 nanoseconds they are beyond 63 bits all the same.
 fn near_span(seconds: u64) -> u64
     ensures { result ≡ near_span seconds }
 {
-    if seconds < 11_000_000_000 {
-        seconds * GlobalTime::SECOND
-    } else {
-        11_000_000_000 * GlobalTime::SECOND
-    }
+    seconds.min(11_000_000_000) * GlobalTime::SECOND
 }

@@ -12,13 +12,6 @@ pub struct TimeBase {
     pub at: VirtualLocalTime,
 }
 
-// A base: none set yet, or one that is held.
-#[derive(Clone, Copy)]
-pub enum Held {
-    Unset,
-    Set(TimeBase),
-}
-
 // A time in parts: seconds, and nanoseconds that are not carried into them.
 #[derive(Drop)]
 pub(crate) struct Parts {
@@ -51,13 +44,11 @@ impl TimeBase {
         let time = self.time;
         let at = self.at;
         let span = t.since(at);
-        if span <= VirtualLocalTime::MAX.0 {
-            if time.0 < 0x8000_0000_0000_0000 {
-                return Parts {
-                    seconds: time.0,
-                    nanoseconds: (time.1 as u64) + span,
-                };
-            }
+        if span <= VirtualLocalTime::MAX.0 && time.0 < 0x8000_0000_0000_0000 {
+            return Parts {
+                seconds: time.0,
+                nanoseconds: (time.1 as u64) + span,
+            };
         }
         let later = time.advance(span);
         Parts {

@@ -7,26 +7,17 @@ ghost use Rattle.clock.specs.Difference.{order_of, difference_of, exceeds, minus
 
 use crate::apart::{Apart, compare, compare_parts};
 use crate::{GlobalTime, TimeBase, VirtualLocalTime};
+use std::cmp::Ordering;
 
-// Where a time stands against another.
-#[derive(Drop)]
-pub enum TimeOrder {
-    Earlier,
-    Same,
-    Later,
-}
-
-// Whether a is earlier than b, the same or later.
-pub fn order(a: GlobalTime, b: GlobalTime) -> TimeOrder
+// Whether a is earlier than b, the same or later: by all of their nanoseconds, where a derived order of the two fields
+// would be another on nanoseconds above 999,999,999.
+pub fn order(a: GlobalTime, b: GlobalTime) -> Ordering
     ensures { result ≡ order_of a b }
 {
     match compare(a, b) {
-        Apart::Behind(_) => TimeOrder::Earlier,
-        Apart::Ahead(m) => if m == 0 {
-            TimeOrder::Same
-        } else {
-            TimeOrder::Later
-        },
+        Apart::Behind(_) => Ordering::Less,
+        Apart::Ahead(0) => Ordering::Equal,
+        Apart::Ahead(_) => Ordering::Greater,
     }
 }
 
@@ -59,27 +50,20 @@ fn minus_parts(a: GlobalTime, seconds: u64, nanoseconds: u64) -> i64
 pub fn magnitude(d: i64) -> u64
     ensures { result ≡ nat_abs d }
 {
-    if d < 0 { (-1 - d) as u64 + 1 } else { d as u64 }
+    d.unsigned_abs()
 }
 
-// Whether D exceeds a threshold.
+// Whether D exceeds a threshold. This and the next are public and named, a line each: one of both with the way as a
+// parameter is no plainer.
 pub fn exceeds(d: i64, threshold: u64) -> bool
     ensures { result ≡ exceeds d threshold }
 {
-    if d < 0 {
-        false
-    } else {
-        threshold < magnitude(d)
-    }
+    0 <= d && threshold < magnitude(d)
 }
 
 // Whether minus D exceeds a threshold.
 pub fn minus_exceeds(d: i64, threshold: u64) -> bool
     ensures { result ≡ minus_exceeds d threshold }
 {
-    if d < 0 {
-        threshold < magnitude(d)
-    } else {
-        false
-    }
+    d < 0 && threshold < magnitude(d)
 }

@@ -12,8 +12,8 @@ mod reading;
 mod time;
 
 pub use apart::{Apart, compare};
-pub use base::{Held, TimeBase};
-pub use difference::{TimeOrder, exceeds, magnitude, minus, minus_at, minus_exceeds, order};
+pub use base::TimeBase;
+pub use difference::{exceeds, magnitude, minus, minus_at, minus_exceeds, order};
 pub use over::{Over, carried_over};
 pub use reading::VirtualLocalTime;
 pub use time::GlobalTime;

@@ -16,6 +16,7 @@ pub struct Over {
 pub fn carried_over(nanoseconds: u32, span: u32) -> Over
     ensures { result ≡ over_of nanoseconds span }
 {
+    // Four steps written out: a loop of them may be compiled back into the long division that this spares.
     let mut rest = (nanoseconds as u64) + (span as u64);
     let mut seconds: u8 = 0;
     if 8_000_000_000 <= rest {

@@ -21,10 +21,6 @@ impl VirtualLocalTime {
     pub fn since(self, earlier: VirtualLocalTime) -> u64
         ensures { result ≡ span_of earlier self }
     {
-        if self.0 < earlier.0 {
-            0
-        } else {
-            self.0 - earlier.0
-        }
+        self.0.saturating_sub(earlier.0)
     }
 }

@@ -45,11 +45,7 @@ impl GlobalTime {
     fn is_within(self, seconds: u64) -> bool
         ensures { result ≡ is_within seconds self }
     {
-        if self.0 <= seconds {
-            self.is_time()
-        } else {
-            false
-        }
+        self.0 <= seconds && self.is_time()
     }
 
     // The time a span of nanoseconds later.
@@ -58,10 +54,6 @@ impl GlobalTime {
     {
         let over = carried_over(self.1, (span % GlobalTime::SECOND) as u32);
         let carry = span / GlobalTime::SECOND + (over.seconds as u64);
-        if carry <= u64::MAX - self.0 {
-            GlobalTime(self.0 + carry, over.nanoseconds)
-        } else {
-            GlobalTime(u64::MAX, over.nanoseconds)
-        }
+        GlobalTime(self.0.saturating_add(carry), over.nanoseconds)
     }
 }

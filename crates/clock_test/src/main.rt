@@ -2,7 +2,8 @@
 // bits, and the thresholds. A time is written as seconds and nanoseconds, a reading as nanoseconds.
 #![tactic(auto)]
 
-use clock::{GlobalTime, TimeBase, TimeOrder, VirtualLocalTime};
+use clock::{GlobalTime, TimeBase, VirtualLocalTime};
+use std::cmp::Ordering;
 use test_line::{number, signed, word, yes_no};
 
 fn main(rt: HostRuntime) {
@@ -135,9 +136,9 @@ fn difference(rt: &impl Print, s: u64, n: u32, r: u64, m: u32) {
     number(rt, r);
     number(rt, m as u64);
     match clock::order(a, b) {
-        TimeOrder::Earlier => word(rt, b" earlier"),
-        TimeOrder::Same => word(rt, b" same"),
-        TimeOrder::Later => word(rt, b" later"),
+        Ordering::Less => word(rt, b" earlier"),
+        Ordering::Equal => word(rt, b" same"),
+        Ordering::Greater => word(rt, b" later"),
     }
     signed(rt, clock::minus(a, b));
     word(rt, b"\n");

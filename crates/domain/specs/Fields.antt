@@ -1,16 +1,16 @@
 -- What a step changes of a record: one definition for each part, all else as it was. Assumes nothing.
-use Rattle.std.specs.Prelude.{ℕ, Bool}
-use Rattle.clock.specs.declared.base.Held.{Held}
+use Rattle.std.specs.Prelude.{ℕ, Bool, Option}
 use Rattle.settings.specs.declared.domain_settings.UserBytes.{UserBytes}
 use Rattle.domain.specs.declared.Domain.{Domain}
-use Rattle.domain.specs.declared.Pairing.{Pairing}
 use Rattle.domain.specs.declared.LastSync.{LastSync}
 use Rattle.domain.specs.declared.Sending.{Sending}
-use Rattle.domain.specs.declared.Leap.{Leap}
 use Rattle.domain.specs.Updates.{next_update}
+use Rattle.clock.specs.declared.base.TimeBase.{TimeBase}
+use Rattle.domain.specs.declared.Leap.{Leap}
+use Rattle.domain.specs.declared.Pair.{Pair}
 
 -- ---- Either role's: the base, and "The update counter rises by 1".
-abbrev pub with_base : Domain → Held → Domain
+abbrev pub with_base : Domain → Option TimeBase → Domain
 with_base d base =
     record {
       settings = d.settings;
@@ -43,7 +43,7 @@ with_update d =
     }
 
 -- ---- A slave's: the pairing, the SYNC accepted last, what is stored at a FUP.
-abbrev pub with_pairing : Domain → Pairing → Domain
+abbrev pub with_pairing : Domain → Option Pair → Domain
 with_pairing d pairing =
     record {
       settings = d.settings;
@@ -75,7 +75,7 @@ with_last d last =
       next_counter = d.next_counter;
     }
 
-abbrev pub with_stored : Domain → UserBytes → Bool → Leap → Domain
+abbrev pub with_stored : Domain → UserBytes → Bool → Option Leap → Domain
 with_stored d user sgw leap =
     record {
       settings = d.settings;

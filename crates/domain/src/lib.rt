@@ -8,7 +8,7 @@ ghost use Rattle.std.specs.Prelude.{◌≡◌};
 ghost use Rattle.domain.specs.Fresh.{fresh_of};
 ghost use Rattle.domain.specs.Updates.{next_update};
 
-use clock::{Held, VirtualLocalTime};
+use clock::{TimeBase, VirtualLocalTime};
 use settings::{DomainSettings, UserBytes};
 
 // A slave's SYNC that waits for its FUP. Its reading is T2.
@@ -21,14 +21,8 @@ pub struct Pair {
     pub user1: u8,
 }
 
-// "It is either waiting for a SYNC, or has an open pair."
-#[derive(Clone, Copy)]
-pub enum Pairing {
-    Waiting,
-    Open(Pair),
-}
-
-// The SYNC that a slave accepted last, and the row: the SYNCs with a good counter since the first one, up to H.
+// The SYNC that a slave accepted last, and the row: the SYNCs with a good counter since the first one, up to H. As an
+// Option of a struct it would take 8 bytes more of each record, which has 200 (`record_size`).
 #[derive(Clone, Copy)]
 pub enum LastSync {
     Unknown,
@@ -53,10 +47,9 @@ pub enum Sending {
     Confirmed(VirtualLocalTime),
 }
 
-// A slave's leap bits: never both. With a bit stands its run: the updates within both thresholds since the leap.
+// A slave's leap bit, one of two. With it stands its run: the updates within both thresholds since the leap.
 #[derive(Clone, Copy)]
 pub enum Leap {
-    None,
     Future(u8),
     Past(u8),
 }
@@ -64,15 +57,17 @@ pub enum Leap {
 #[derive(Clone, Copy)]
 pub struct Domain {
     pub settings: DomainSettings,
-    pub base: Held,
-    pub pairing: Pairing,
+    // None where it was never set.
+    pub base: Option<TimeBase>,
+    // "It is either waiting for a SYNC, or has an open pair."
+    pub pairing: Option<Pair>,
     pub last: LastSync,
     pub sending: Sending,
     pub number: u8,
     // What a slave stored at its last FUP.
     pub user: UserBytes,
     pub sgw: bool,
-    pub leap: Leap,
+    pub leap: Option<Leap>,
     // The update counter of either role.
     pub updates: u8,
     // The counter that a master sends next.
@@ -86,23 +81,38 @@ impl Domain {
     {
         Domain {
             settings: settings.held(),
-            base: Held::Unset,
-            pairing: Pairing::Waiting,
+            base: None,
+            pairing: None,
             last: LastSync::Unknown,
             sending: Sending::Never,
             number,
             user: UserBytes(0, 0, 0),
             sgw: false,
-            leap: Leap::None,
+            leap: None,
             updates: 0,
             next_counter: 0,
         }
     }
 }
 
+// What a step on a record answers, and the record after it.
+#[derive(Drop)]
+pub struct DomainStep<A> {
+    pub answer: A,
+    pub domain: Domain,
+}
+
+// What a call on a record answers, the record after it, and the reading that is kept from then on.
+#[derive(Drop)]
+pub struct DomainCall<A> {
+    pub answer: A,
+    pub domain: Domain,
+    pub kept: VirtualLocalTime,
+}
+
 // The update counter after one more update: from 255 to 0.
 pub fn next_update(updates: u8) -> u8
     ensures { result ≡ next_update updates }
 {
-    if updates < 255 { updates + 1 } else { 0 }
+    updates.wrapping_add(1)
 }

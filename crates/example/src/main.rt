@@ -4,9 +4,8 @@
 #![tactic(auto)]
 
 use knottgust::{
-    CheckMode, CycleAnswer, DomainSettings, FrameAnswer, GlobalTime, Node, NodeSettings,
-    ReadAnswer, Role, VirtualLocalTime, on_confirmation, on_frame, on_main_cycle, on_queue,
-    on_read, on_set,
+    CheckMode, DomainSettings, GlobalTime, Node, NodeSettings, Numbered, Role, Taken,
+    VirtualLocalTime, on_confirmation, on_frame, on_main_cycle, on_queue, on_read, on_set,
 };
 
 const SLAVE: u8 = 1;
@@ -15,8 +14,7 @@ const MASTER: u8 = 2;
 
 fn main(rt: HostRuntime) {
     let new = Node::new(settings());
-    let verdict = new.verdict;
-    say(&rt, "settings", verdict.number());
+    say(&rt, "settings", new.answer.number());
     receive(&rt, new.node);
     send(&rt, new.node);
 }
@@ -34,49 +32,26 @@ fn settings() -> NodeSettings {
 
 // What a role does not have read stays as an absent domain has it.
 fn slave() -> DomainSettings {
-    let absent = DomainSettings::absent();
-    let ids = absent.ids;
-    let security = absent.security;
-    let user = absent.user;
     DomainSettings {
         follow_up_time: 100_000_000,
         loss_time: 2_000_000_000,
         future_threshold: 500_000_000,
         past_threshold: 500_000_000,
-        period: 0,
-        confirmation_time: 0,
-        ids,
         role: Role::Slave,
         mode: CheckMode::NotValidated,
         jump_width: 2,
         hysteresis: 0,
         clear_count: 61,
-        security,
-        user,
+        ..DomainSettings::absent()
     }
 }
 
 fn master() -> DomainSettings {
-    let absent = DomainSettings::absent();
-    let ids = absent.ids;
-    let mode = absent.mode;
-    let security = absent.security;
-    let user = absent.user;
     DomainSettings {
-        follow_up_time: 0,
-        loss_time: 0,
-        future_threshold: 0,
-        past_threshold: 0,
         period: 1_000_000_000,
         confirmation_time: 200_000_000,
-        ids,
         role: Role::Master,
-        mode,
-        jump_width: 0,
-        hysteresis: 0,
-        clear_count: 0,
-        security,
-        user,
+        ..DomainSettings::absent()
     }
 }
 
@@ -85,19 +60,16 @@ fn receive(rt: &impl Print, node: Node) {
     let sync = [0x10, 0xBB, 0x11, 0xAA, 0x00, 0x00, 0x0E, 0x10];
     let fup = [0x18, 0x00, 0x11, 0x00, 0x00, 0x00, 0x00, 0x64];
     let heard = on_frame(node, VirtualLocalTime(5_000_000_000), &sync);
-    let taken = heard.answer;
-    say(rt, "SYNC", taken.number());
+    say(rt, "SYNC", heard.answer.number());
     let joined = on_frame(heard.node, VirtualLocalTime(5_010_000_000), &fup);
-    let answer = joined.answer;
-    say(rt, "FUP", answer.number());
-    if let FrameAnswer::FirstTaken = answer {
+    say(rt, "FUP", joined.answer.number());
+    if let Ok(Taken::First) = joined.answer {
         let _ = println!(rt; "the first time of this domain");
     }
     let read = on_read(joined.node, SLAVE, VirtualLocalTime(6_010_000_000));
     say(rt, "read", read.number());
-    if let ReadAnswer::Time(shown) = read {
-        let time = shown.time;
-        say_time(rt, time);
+    if let Ok(shown) = read {
+        say_time(rt, shown.time);
     }
     receive_queue(rt, joined.node);
 }
@@ -112,8 +84,7 @@ fn receive_queue(rt: &impl Print, node: Node) {
     ];
     let mut numbers = [0u8; 2];
     let queued = on_queue(node, &readings, &frames, &mut numbers);
-    let taken = queued.answer;
-    say(rt, "queue", taken.number());
+    say(rt, "queue", queued.answer.number());
     say(rt, "its SYNC", numbers[0]);
     say(rt, "its FUP", numbers[1]);
 }
@@ -128,12 +99,10 @@ fn send(rt: &impl Print, node: Node) {
         100,
         999_999_000,
     );
-    let done = set.answer;
-    say(rt, "set", done.number());
+    say(rt, "set", set.answer.number());
     let cycle = on_main_cycle(set.node, VirtualLocalTime(7_000_000_000), &mut out);
-    let answer = cycle.answer;
-    say(rt, "main cycle", answer.number());
-    if let CycleAnswer::Sent(_) = answer {
+    say(rt, "main cycle", cycle.answer.number());
+    if cycle.answer.is_ok() {
         say_frame(rt, out);
     }
     // the counter of a SYNC stands in the low four bits of byte 2
@@ -145,8 +114,7 @@ fn send(rt: &impl Print, node: Node) {
         counter,
         &mut out,
     );
-    let followed = confirmed.answer;
-    say(rt, "confirmation", followed.number());
+    say(rt, "confirmation", confirmed.answer.number());
     say_frame(rt, out);
 }
 
@@ -156,23 +124,13 @@ fn say(rt: &impl Print, what: &str, number: u8) {
 }
 
 fn say_time(rt: &impl Print, time: GlobalTime) {
-    let seconds = time.0;
-    let nanoseconds = time.1;
+    let GlobalTime(seconds, nanoseconds) = time;
     let _ = println!(rt; "{seconds} s and {nanoseconds} ns");
 }
 
 fn say_frame(rt: &impl Print, frame: [u8; 8]) {
-    say_byte(rt, frame[0]);
-    say_byte(rt, frame[1]);
-    say_byte(rt, frame[2]);
-    say_byte(rt, frame[3]);
-    say_byte(rt, frame[4]);
-    say_byte(rt, frame[5]);
-    say_byte(rt, frame[6]);
-    say_byte(rt, frame[7]);
+    for byte in frame {
+        let _ = print!(rt; "{byte:02x}");
+    }
     let _ = println!(rt; "");
-}
-
-fn say_byte(rt: &impl Print, byte: u8) {
-    let _ = print!(rt; "{byte:02x}");
 }

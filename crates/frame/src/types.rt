@@ -2,27 +2,26 @@
 ghost use Rattle.std.specs.Prelude.{◌≡◌};
 ghost use Rattle.frame.specs.Types.{type_of};
 
-// The four types, and every other byte.
+// The four types.
 #[derive(Drop)]
 pub enum FrameType {
     PlainSync,
     SecuredSync,
     PlainFup,
     SecuredFup,
-    Unknown,
 }
 
 impl FrameType {
-    // The type that byte 0 says.
-    pub fn of(byte: u8) -> FrameType
+    // The type that byte 0 says, if it is one.
+    pub fn of(byte: u8) -> Option<FrameType>
         ensures { result ≡ type_of byte }
     {
         match byte {
-            0x10 => FrameType::PlainSync,
-            0x20 => FrameType::SecuredSync,
-            0x18 => FrameType::PlainFup,
-            0x28 => FrameType::SecuredFup,
-            _ => FrameType::Unknown,
+            0x10 => Some(FrameType::PlainSync),
+            0x20 => Some(FrameType::SecuredSync),
+            0x18 => Some(FrameType::PlainFup),
+            0x28 => Some(FrameType::SecuredFup),
+            _ => None,
         }
     }
 }

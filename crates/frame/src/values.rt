@@ -4,7 +4,7 @@ ghost use Rattle.std.specs.Prelude.{◌≡◌};
 ghost use Rattle.frame.specs.Values.{domain_in};
 
 // Plain, with the user byte that byte 1 carries, 1 in a SYNC and 2 in a FUP; or secured, where byte 1
-// is the check byte and no value.
+// is the check byte and no value. No Option<u8>, whose None would say "no user byte" and not "secured".
 #[derive(Clone, Copy)]
 pub enum Protection {
     Plain(u8),

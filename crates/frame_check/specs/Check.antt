@@ -1,15 +1,7 @@
 -- Paper 01, "Frames": the check modes, "each frame judged on its own". Assumes nothing.
-use Rattle.std.specs.Prelude.{ℕ, Bool, true, false, cond, List, eqb, length, get_or, drop}
+use Rattle.std.specs.Prelude.{ℕ, Bool, true, false, cond, List, eqb, length, get_or, drop, None, Option, Some}
 use Rattle.crc8.specs.Crc8.{check_of}
 use Rattle.frame.specs.declared.data_ids.DataIds.{DataIds}
-use Rattle.frame.specs.declared.types.FrameType.{FrameType}
-use Rattle.frame.specs.declared.types.FrameType.TheVariants.{
-  PlainSync,
-  SecuredSync,
-  PlainFup,
-  SecuredFup,
-  Unknown,
-}
 use Rattle.frame_check.specs.declared.CheckMode.{CheckMode}
 use Rattle.frame_check.specs.declared.CheckMode.TheVariants.{
   Validated,
@@ -20,6 +12,8 @@ use Rattle.frame_check.specs.declared.CheckMode.TheVariants.{
 use Rattle.frame.specs.Types.{type_of}
 use Rattle.frame.specs.ByteTwo.{counter_of}
 use Rattle.frame.specs.Ids.{id_at}
+use Rattle.frame.specs.declared.types.FrameType.{FrameType}
+use Rattle.frame.specs.declared.types.FrameType.TheVariants.{PlainFup, PlainSync, SecuredFup, SecuredSync}
 
 -- ---- "validated takes only secured frames with a right check byte; not validated takes only plain
 -- frames; ignored takes both and does not look at the check byte; optional takes plain frames, and
@@ -41,12 +35,12 @@ takes_secured Optional right = right
 abbrev pub is_right : List ℕ → List ℕ → Bool
 is_right list bytes = eqb (get_or bytes 1 0) (check_of (drop 2 bytes) (id_at list (counter_of (get_or bytes 2 0))))
 
-abbrev pub judged : FrameType → CheckMode → DataIds → List ℕ → Bool
-judged PlainSync mode ids bytes = takes_plain mode
-judged SecuredSync mode ids bytes = takes_secured mode (is_right ids.sync bytes)
-judged PlainFup mode ids bytes = takes_plain mode
-judged SecuredFup mode ids bytes = takes_secured mode (is_right ids.fup bytes)
-judged Unknown mode ids bytes = false
+abbrev pub judged : Option FrameType → CheckMode → DataIds → List ℕ → Bool
+judged (Some PlainSync) mode ids bytes = takes_plain mode
+judged (Some SecuredSync) mode ids bytes = takes_secured mode (is_right ids.sync bytes)
+judged (Some PlainFup) mode ids bytes = takes_plain mode
+judged (Some SecuredFup) mode ids bytes = takes_secured mode (is_right ids.fup bytes)
+judged None mode ids bytes = false
 
 abbrev pub is_taken : CheckMode → DataIds → List ℕ → Bool
 is_taken mode ids bytes =

@@ -2,7 +2,7 @@
 // judged over the bytes as received, reserved bits included.
 #![tactic(auto)]
 
-ghost use Rattle.std.specs.Prelude.{◌≡◌, length};
+ghost use Rattle.std.specs.Prelude.{◌≡◌};
 ghost use Rattle.frame_check.specs.Check.{is_taken, takes_plain, takes_secured, is_right};
 
 use frame::{DataIds, FrameType, counter_of, id_at};
@@ -20,50 +20,35 @@ impl CheckMode {
     pub fn takes(self, bytes: &[u8], ids: DataIds) -> bool
         ensures { result ≡ is_taken self ids bytes.now }
     {
-        if bytes.len() != 8 {
+        let Some(bytes) = bytes.as_array::<8>() else {
             return false;
-        }
+        };
         match FrameType::of(bytes[0]) {
-            FrameType::PlainSync => self.takes_plain(),
-            FrameType::SecuredSync => {
-                let list = ids.sync;
-                self.takes_secured(bytes, list)
-            }
-            FrameType::PlainFup => self.takes_plain(),
-            FrameType::SecuredFup => {
-                let list = ids.fup;
-                self.takes_secured(bytes, list)
-            }
-            FrameType::Unknown => false,
+            Some(FrameType::PlainSync | FrameType::PlainFup) => self.takes_plain(),
+            Some(FrameType::SecuredSync) => self.takes_secured(bytes, ids.sync),
+            Some(FrameType::SecuredFup) => self.takes_secured(bytes, ids.fup),
+            None => false,
         }
     }
 
     fn takes_plain(self) -> bool
         ensures { result ≡ takes_plain self }
     {
-        match self {
-            CheckMode::Validated => false,
-            CheckMode::NotValidated => true,
-            CheckMode::Ignored => true,
-            CheckMode::Optional => true,
-        }
+        !matches!(self, CheckMode::Validated)
     }
 
-    fn takes_secured(self, bytes: &[u8], list: [u8; DataIds::COUNTERS]) -> bool
-        requires { length bytes.now ≡ 8 }
+    fn takes_secured(self, bytes: &[u8; 8], list: [u8; DataIds::COUNTERS]) -> bool
         ensures { result ≡ takes_secured self (is_right list bytes.now) }
     {
         match self {
-            CheckMode::Validated => right(bytes, list),
+            CheckMode::Validated | CheckMode::Optional => right(bytes, list),
             CheckMode::NotValidated => false,
             CheckMode::Ignored => true,
-            CheckMode::Optional => right(bytes, list),
         }
     }
 }
 
-fn right(bytes: &[u8], list: [u8; DataIds::COUNTERS]) -> bool
-    requires { length bytes.now ≡ 8 }
+fn right(bytes: &[u8; 8], list: [u8; DataIds::COUNTERS]) -> bool
     ensures { result ≡ is_right list bytes.now }
 {
     let id = id_at(list, counter_of(bytes[2]));

@@ -6,6 +6,7 @@
 --   good_back       what is written is good under each mode that takes its kind
 --   named_back      it names the domain of its values
 -- Assumes nothing.
+use Rattle.std.specs.Prelude.{Err, None, Ok, Option, Result, Some}
 use Prim.Native.Nat.{ℕ, zero, suc, ◌+◌, ◌*◌, ◌/◌, ◌%◌, ◌^◌, ◌<◌}
 use mathlib.Core.Path.{◌≡◌, refl, sym, ap, ◌∙◌, subst}
 use mathlib.Core.Bool.{Bool, true, false, cond}
@@ -18,14 +19,10 @@ use borrow.Author.Tests.{eq-eqb, ne_eqb, eqb-true, eqb-false, ltb-true}
 use Rattle.crc8.specs.Crc8.{check_of}
 use Rattle.crc8.proofs.Values.{values_of as list_of, values_all}
 use Rattle.frame.specs.declared.data_ids.DataIds.{DataIds}
-use Rattle.frame.specs.declared.types.FrameType.{FrameType}
-use Rattle.frame.specs.declared.types.FrameType.TheVariants.{PlainSync, SecuredSync, PlainFup, SecuredFup, Unknown}
 use Rattle.frame.specs.declared.values.Protection.{Protection}
 use Rattle.frame.specs.declared.values.Protection.TheVariants.{Plain, Secured}
 use Rattle.frame.specs.declared.values.Frame.{Frame}
 use Rattle.frame.specs.declared.values.Frame.TheVariants.{Sync as sync, Fup as fup}
-use Rattle.frame_read.specs.declared.Read.{Read}
-use Rattle.frame_read.specs.declared.Read.TheVariants.{Values, LengthNot8}
 use Rattle.frame_check.specs.declared.CheckMode.{CheckMode}
 use Rattle.frame.specs.Types.{type_of}
 use Rattle.frame.specs.ByteTwo.{byte_two_of}
@@ -35,6 +32,10 @@ use Rattle.frame_write.specs.Write.{flags, rest_of, framed_of, bytes_of}
 use Rattle.frame_check.specs.Check.{is_taken, is_right, takes_secured}
 use Rattle.frame.specs.Values.{domain_in, protection_in}
 use Rattle.frame_laws.specs.RoundTrip.{FrameFits, takes_kind, AreBytes, zero_reserved, right_if_secured}
+use Rattle.frame.specs.declared.types.FrameType.{FrameType}
+use Rattle.frame.specs.declared.types.FrameType.TheVariants.{PlainFup, PlainSync, SecuredFup, SecuredSync}
+use Rattle.frame_read.specs.declared.NoFrame.{NoFrame}
+use Rattle.frame_read.specs.declared.NoFrame.TheVariants.{LengthNot8}
 
 -- ---- read-back
 
@@ -46,12 +47,12 @@ ovs_back : (sgw : Bool) (ovs : ℕ) → ovs < 4 → flags sgw ovs % 4 ≡ ovs
 ovs_back true ovs h = omega arith
 ovs_back false ovs h = omega arith
 
-abbrev sync_values : (domain counter user0 seconds : ℕ) → Protection → Read
-sync_values d c u s p = Values (sync (record { domain = d; counter = c; user0 = u; seconds = s; protection = p }))
+abbrev sync_values : (domain counter user0 seconds : ℕ) → Protection → Result Frame NoFrame
+sync_values d c u s p = Ok (sync (record { domain = d; counter = c; user0 = u; seconds = s; protection = p }))
 
-abbrev fup_values : (domain counter : ℕ) → Bool → (ovs nanoseconds : ℕ) → Protection → Read
+abbrev fup_values : (domain counter : ℕ) → Bool → (ovs nanoseconds : ℕ) → Protection → Result Frame NoFrame
 fup_values d c g o n p =
-    Values (fup (record { domain = d; counter = c; sgw = g; ovs = o; nanoseconds = n; protection = p }))
+    Ok (fup (record { domain = d; counter = c; sgw = g; ovs = o; nanoseconds = n; protection = p }))
 
 module _ (domain counter word : ℕ) (hd : domain < 16) (hc : counter < 16) (hw : word < 2 ^ 32) where
   domain_back : byte_two_of domain counter / 16 ≡ domain
@@ -84,7 +85,7 @@ module _ (domain counter word : ℕ) (hd : domain < 16) (hc : counter < 16) (hw 
   fup_back sgw ovs id h Secured =
       λ i. fup_values (domain_back i) (counter_back i) (sgw_back sgw ovs i) (ovs_back sgw ovs h i) (word_back i) Secured
 
-pub read_back : (ids : DataIds) (f : Frame) → FrameFits f → read_of (bytes_of ids f) ≡ Values f
+pub read_back : (ids : DataIds) (f : Frame) → FrameFits f → read_of (bytes_of ids f) ≡ Ok f
 read_back ids (sync s) h =
     sync_back s.domain s.counter s.seconds (omega arith) (omega arith) (omega arith)
     s.user0 (id_at ids.sync s.counter) s.protection
@@ -95,12 +96,12 @@ read_back ids (fup f) h =
 -- ---- write-back
 
 -- what a type says of byte 0
-abbrev TypeIs : FrameType → ℕ → Type 0
-TypeIs PlainSync byte = byte ≡ 0x10
-TypeIs SecuredSync byte = byte ≡ 0x20
-TypeIs PlainFup byte = byte ≡ 0x18
-TypeIs SecuredFup byte = byte ≡ 0x28
-TypeIs Unknown byte = Unit {0}
+abbrev TypeIs : Option FrameType → ℕ → Type 0
+TypeIs (Some PlainSync) byte = byte ≡ 0x10
+TypeIs (Some SecuredSync) byte = byte ≡ 0x20
+TypeIs (Some PlainFup) byte = byte ≡ 0x18
+TypeIs (Some SecuredFup) byte = byte ≡ 0x28
+TypeIs None byte = Unit {0}
 
 type_is : (byte : ℕ) → TypeIs (type_of byte) byte
 type_is byte = go (eqb byte 0x10) refl (eqb byte 0x20) refl (eqb byte 0x18) refl (eqb byte 0x28) refl
@@ -108,7 +109,7 @@ type_is byte = go (eqb byte 0x10) refl (eqb byte 0x20) refl (eqb byte 0x18) refl
     go :
         (a : Bool) → eqb byte 0x10 ≡ a → (b : Bool) → eqb byte 0x20 ≡ b →
         (c : Bool) → eqb byte 0x18 ≡ c → (d : Bool) → eqb byte 0x28 ≡ d →
-        TypeIs (cond a PlainSync (cond b SecuredSync (cond c PlainFup (cond d SecuredFup Unknown)))) byte
+        TypeIs (cond a (Some PlainSync) (cond b (Some SecuredSync) (cond c (Some PlainFup) (cond d (Some SecuredFup) None)))) byte
     go true e b f c g d h = eqb-true byte 0x10 e
     go false e true f c g d h = eqb-true byte 0x20 f
     go false e false f true g d h = eqb-true byte 0x18 g
@@ -143,38 +144,38 @@ module _ (ids : DataIds) (zero' one two three four five six seven : ℕ)
       ap (λ (rest : List ℕ). check_of rest (id_at list (two % 16))) (rest_of_lem t e) ∙ sym (eqb-true one _ r)
 
   back :
-      (k : FrameType) → TypeIs k zero' → (f : Frame) → values_of k eight ≡ Values f →
+      (k : Option FrameType) → TypeIs k zero' → (f : Frame) → values_of k eight ≡ Ok f →
       zero_reserved k eight ≡ true → right_if_secured k ids eight ≡ true → bytes_of ids f ≡ eight
-  back PlainSync t f e z r =
+  back (Some PlainSync) t f e z r =
       let q : sync (sync_in eight (Plain one)) ≡ f = cc in
       let p = rest_of_lem three refl in
       subst (λ (f : Frame). bytes_of ids f ≡ eight) q (λ i. sym t i ∷ one ∷ p i)
-  back SecuredSync t f e z r =
+  back (Some SecuredSync) t f e z r =
       let q : sync (sync_in eight Secured) ≡ f = cc in
       let p = rest_of_lem three refl in
       let c = check_of_lem ids.sync three refl r in
       subst (λ (f : Frame). bytes_of ids f ≡ eight) q (λ i. sym t i ∷ c i ∷ p i)
-  back PlainFup t f e z r =
+  back (Some PlainFup) t f e z r =
       let q : fup (fup_in eight (Plain one)) ≡ f = cc in
       let p = rest_of_lem _ (flags_of three (omega (arith, ltb-true))) in
       subst (λ (f : Frame). bytes_of ids f ≡ eight) q (λ i. sym t i ∷ one ∷ p i)
-  back SecuredFup t f e z r =
+  back (Some SecuredFup) t f e z r =
       let q : fup (fup_in eight Secured) ≡ f = cc in
       let p = rest_of_lem _ (flags_of three (omega (arith, ltb-true))) in
       let c = check_of_lem ids.fup _ (flags_of three (omega (arith, ltb-true))) r in
       subst (λ (f : Frame). bytes_of ids f ≡ eight) q (λ i. sym t i ∷ c i ∷ p i)
-  back Unknown t f e z r = let no : ◌≡◌ {A = ℕ} 0 1 = cc in absurd (omega arith)
+  back None t f e z r = let no : ◌≡◌ {A = ℕ} 0 1 = cc in absurd (omega arith)
 
 -- a frame that reads has 8 bytes, and its type is read
 reads :
-    (bytes : List ℕ) (f : Frame) → read_of bytes ≡ Values f →
-    (length bytes ≡ 8) × (values_of (type_of (get_or bytes 0 0)) bytes ≡ Values f)
+    (bytes : List ℕ) (f : Frame) → read_of bytes ≡ Ok f →
+    (length bytes ≡ 8) × (values_of (type_of (get_or bytes 0 0)) bytes ≡ Ok f)
 reads bytes f = go (eqb (length bytes) 8) refl
   where
     go :
         (b : Bool) → eqb (length bytes) 8 ≡ b →
-        cond b (values_of (type_of (get_or bytes 0 0)) bytes) LengthNot8 ≡ Values f →
-        (length bytes ≡ 8) × (values_of (type_of (get_or bytes 0 0)) bytes ≡ Values f)
+        cond b (values_of (type_of (get_or bytes 0 0)) bytes) (Err LengthNot8) ≡ Ok f →
+        (length bytes ≡ 8) × (values_of (type_of (get_or bytes 0 0)) bytes ≡ Ok f)
     go true w e = (eqb-true _ 8 w, e)
     go false w e = let no : ◌≡◌ {A = ℕ} 0 1 = cc in absurd (omega arith)
 
@@ -185,7 +186,7 @@ byte_below (b ∷ rest) (suc i) h = byte_below rest i h.1
 
 abbrev WriteBack : DataIds → Frame → List ℕ → Type 0
 WriteBack ids f bytes =
-    AreBytes bytes → read_of bytes ≡ Values f →
+    AreBytes bytes → read_of bytes ≡ Ok f →
     zero_reserved (type_of (get_or bytes 0 0)) bytes ≡ true →
     right_if_secured (type_of (get_or bytes 0 0)) ids bytes ≡ true →
     bytes_of ids f ≡ bytes

@@ -1,22 +1,19 @@
 -- Paper 01, "Frames": the values that bytes carry. Assumes nothing.
-use Rattle.std.specs.Prelude.{ℕ, ◌+◌, ◌*◌, ◌/◌, ◌%◌, cond, List, eqb, length, get_or}
-use Rattle.frame.specs.declared.types.FrameType.{FrameType}
-use Rattle.frame.specs.declared.types.FrameType.TheVariants.{
-  PlainSync,
-  SecuredSync,
-  PlainFup,
-  SecuredFup,
-  Unknown,
-}
+use Rattle.std.specs.Prelude.{ℕ, ◌+◌, ◌*◌, ◌/◌, ◌%◌, cond, List, eqb, length, get_or, Err, None, Ok, Option, Result, Some}
 use Rattle.frame.specs.declared.values.Protection.{Protection}
 use Rattle.frame.specs.declared.values.Protection.TheVariants.{Plain, Secured}
 use Rattle.frame.specs.declared.values.Frame.TheVariants.{Sync as sync, Fup as fup}
 use Rattle.frame.specs.declared.values.Sync.{Sync}
 use Rattle.frame.specs.declared.values.Fup.{Fup}
-use Rattle.frame_read.specs.declared.Read.{Read}
-use Rattle.frame_read.specs.declared.Read.TheVariants.{Values, LengthNot8, NoSuchType}
 use Rattle.frame.specs.Types.{type_of}
 use Rattle.frame.specs.ByteTwo.{domain_of, counter_of}
+use Rattle.frame.specs.declared.types.FrameType.{FrameType}
+use Rattle.frame.specs.declared.types.FrameType.TheVariants.{PlainFup, PlainSync, SecuredFup, SecuredSync}
+use Rattle.frame.specs.declared.values.Frame.{Frame}
+use Rattle.frame_read.specs.declared.NoFrame.{NoFrame}
+use Rattle.frame_read.specs.declared.NoFrame.TheVariants.{LengthNot8, NoSuchType}
+use Rattle.refusal.specs.declared.Refusal.{Refusal}
+use Rattle.refusal.specs.declared.Refusal.TheVariants.{Length, FrameType as no_type}
 
 abbrev byte : List ℕ → ℕ → ℕ
 byte bytes i = get_or bytes i 0
@@ -53,13 +50,18 @@ fup_in bytes p =
     }
 
 -- ---- byte 1 "user byte 1 / check byte", "user byte 2 / check byte"
-abbrev pub values_of : FrameType → List ℕ → Read
-values_of PlainSync bytes = Values (sync (sync_in bytes (Plain (byte bytes 1))))
-values_of SecuredSync bytes = Values (sync (sync_in bytes Secured))
-values_of PlainFup bytes = Values (fup (fup_in bytes (Plain (byte bytes 1))))
-values_of SecuredFup bytes = Values (fup (fup_in bytes Secured))
-values_of Unknown bytes = NoSuchType
+abbrev pub values_of : Option FrameType → List ℕ → Result Frame NoFrame
+values_of (Some PlainSync) bytes = Ok (sync (sync_in bytes (Plain (byte bytes 1))))
+values_of (Some SecuredSync) bytes = Ok (sync (sync_in bytes Secured))
+values_of (Some PlainFup) bytes = Ok (fup (fup_in bytes (Plain (byte bytes 1))))
+values_of (Some SecuredFup) bytes = Ok (fup (fup_in bytes Secured))
+values_of None bytes = Err NoSuchType
+
+-- ---- 2 and 3
+abbrev pub refusal_of : NoFrame → Refusal
+refusal_of LengthNot8 = Length
+refusal_of NoSuchType = no_type
 
 -- ---- "frame length not 8", "byte 0 none of the four types"
-abbrev pub read_of : List ℕ → Read
-read_of bytes = cond (eqb (length bytes) 8) (values_of (type_of (byte bytes 0)) bytes) LengthNot8
+abbrev pub read_of : List ℕ → Result Frame NoFrame
+read_of bytes = cond (eqb (length bytes) 8) (values_of (type_of (byte bytes 0)) bytes) (Err LengthNot8)

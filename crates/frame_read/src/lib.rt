@@ -2,33 +2,48 @@
 // Bytes of every length are taken; what cannot be read is answered.
 #![tactic(auto)]
 
-ghost use Rattle.std.specs.Prelude.{◌≡◌, ◌<◌, length};
-ghost use Rattle.frame_read.specs.Read.{read_of, named_domain, sync_in, fup_in, word_of};
+ghost use Rattle.std.specs.Prelude.{◌≡◌};
+ghost use Rattle.frame_read.specs.Read.{
+  read_of,
+  refusal_of,
+  named_domain,
+  sync_in,
+  fup_in,
+  word_of,
+};
 
 use frame::{Frame, FrameType, Fup, Protection, Sync, counter_of, domain_of};
+use refusal::Refusal;
 
-// What reading bytes finds.
-#[derive(Drop)]
-pub enum Read {
-    Values(Frame),
+// Why bytes are no frame.
+#[derive(Clone, Copy)]
+pub enum NoFrame {
     LengthNot8,
     NoSuchType,
 }
 
+impl From<NoFrame> for Refusal {
+    ghost from_gives = { λ why refusal. refusal ≡ refusal_of why };
+
+    fn from(why: NoFrame) -> Refusal {
+        match why {
+            NoFrame::LengthNot8 => Refusal::Length,
+            NoFrame::NoSuchType => Refusal::FrameType,
+        }
+    }
+}
+
 // The values that the bytes carry.
-pub fn read_frame(bytes: &[u8]) -> Read
+pub fn read_frame(bytes: &[u8]) -> Result<Frame, NoFrame>
     ensures { result ≡ read_of bytes.now }
 {
-    if bytes.len() != 8 {
-        return Read::LengthNot8;
-    }
+    let bytes = bytes.as_array::<8>().ok_or(NoFrame::LengthNot8)?;
     let user = Protection::Plain(bytes[1]);
-    match FrameType::of(bytes[0]) {
-        FrameType::PlainSync => Read::Values(Frame::Sync(sync(bytes, user))),
-        FrameType::SecuredSync => Read::Values(Frame::Sync(sync(bytes, Protection::Secured))),
-        FrameType::PlainFup => Read::Values(Frame::Fup(fup(bytes, user))),
-        FrameType::SecuredFup => Read::Values(Frame::Fup(fup(bytes, Protection::Secured))),
-        FrameType::Unknown => Read::NoSuchType,
+    match FrameType::of(bytes[0]).ok_or(NoFrame::NoSuchType)? {
+        FrameType::PlainSync => Ok(Frame::Sync(sync(bytes, user))),
+        FrameType::SecuredSync => Ok(Frame::Sync(sync(bytes, Protection::Secured))),
+        FrameType::PlainFup => Ok(Frame::Fup(fup(bytes, user))),
+        FrameType::SecuredFup => Ok(Frame::Fup(fup(bytes, Protection::Secured))),
     }
 }
 
@@ -36,15 +51,10 @@ pub fn read_frame(bytes: &[u8]) -> Read
 pub fn named_domain(bytes: &[u8]) -> u8
     ensures { result ≡ named_domain bytes.now }
 {
-    if bytes.len() < 3 {
-        0
-    } else {
-        domain_of(bytes[2])
-    }
+    bytes.get(2).map_or(0, |two| domain_of(*two))
 }
 
-fn sync(bytes: &[u8], protection: Protection) -> Sync
-    requires { length bytes.now ≡ 8 }
+fn sync(bytes: &[u8; 8], protection: Protection) -> Sync
     ensures { result ≡ sync_in bytes.now protection }
 {
     Sync {
@@ -56,8 +66,7 @@ fn sync(bytes: &[u8], protection: Protection) -> Sync
     }
 }
 
-fn fup(bytes: &[u8], protection: Protection) -> Fup
-    requires { length bytes.now ≡ 8 }
+fn fup(bytes: &[u8; 8], protection: Protection) -> Fup
     ensures { result ≡ fup_in bytes.now protection }
 {
     Fup {
@@ -71,15 +80,8 @@ fn fup(bytes: &[u8], protection: Protection) -> Fup
 }
 
 // Bytes 4 to 7 as one number, big-endian.
-fn word(bytes: &[u8]) -> u32
-    requires { length bytes.now ≡ 8 }
+fn word(bytes: &[u8; 8]) -> u32
     ensures { result ≡ word_of bytes.now }
 {
-    ((wide(bytes[4]) * 256 + wide(bytes[5])) * 256 + wide(bytes[6])) * 256 + wide(bytes[7])
-}
-
-fn wide(byte: u8) -> u32
-    ensures { (result ≡ byte) × (result < 256) }
-{
-    byte as u32
+    u32::from_be_bytes([bytes[4], bytes[5], bytes[6], bytes[7]])
 }

@@ -3,7 +3,7 @@ use frame::{Frame, Fup, Protection, Sync};
 use test_line::{byte, hex, number, small, word};
 
 pub fn bytes(rt: &impl Print, list: &[u8]) {
-    if list.len() == 0 {
+    if list.is_empty() {
         word(rt, b" empty");
     } else {
         word(rt, b" ");

@@ -1,5 +1,5 @@
 -- Paper 01, "Frames": the bytes of a frame's values. Assumes nothing.
-use Rattle.std.specs.Prelude.{ℕ, ◌+◌, ◌/◌, ◌%◌, ◌≡◌, Bool, cond, List, [], ◌∷◌, ◌++◌, leb, length, take, drop}
+use Rattle.std.specs.Prelude.{ℕ, ◌+◌, ◌/◌, ◌%◌, ◌≡◌, Bool, cond, List, [], ◌∷◌, ◌++◌, leb, length, take, drop, Result, Ok, Err, ⊤}
 use Rattle.crc8.specs.Crc8.{check_of}
 use Rattle.frame.specs.ByteTwo.{byte_two_of}
 use Rattle.frame.specs.Ids.{id_at}
@@ -8,8 +8,7 @@ use Rattle.frame.specs.declared.values.Protection.{Protection}
 use Rattle.frame.specs.declared.values.Protection.TheVariants.{Plain, Secured}
 use Rattle.frame.specs.declared.values.Frame.{Frame}
 use Rattle.frame.specs.declared.values.Frame.TheVariants.{Sync as sync, Fup as fup}
-use Rattle.frame_write.specs.declared.Written.{Written}
-use Rattle.frame_write.specs.declared.Written.TheVariants.{Done, NoRoom}
+use Rattle.frame_write.specs.declared.NoRoom.{NoRoom}
 
 -- ---- byte 3 of a FUP: "bit 2 SGW, bits 1-0 OVS", "A writer sets reserved bits to 0"
 abbrev pub flags : Bool → ℕ → ℕ
@@ -50,7 +49,7 @@ is_room at out = leb (at + 8) (length out)
 abbrev pub written_in : List ℕ → ℕ → List ℕ → List ℕ
 written_in bytes at out = take at out ++ bytes ++ drop (at + 8) out
 
-pub record WrittenAt (frame : Frame) (ids : DataIds) (at : ℕ) (before : List ℕ) (r : Written)
-    (after : List ℕ) : Type 0 where
-  pub answer : r ≡ cond (is_room at before) Done NoRoom
+pub record WrittenAt (frame : Frame) (ids : DataIds) (at : ℕ) (before : List ℕ)
+    (r : Result ⊤ NoRoom) (after : List ℕ) : Type 0 where
+  pub answer : r ≡ cond (is_room at before) (Ok tt) (Err (record {}))
   pub bytes : after ≡ cond (is_room at before) (written_in (bytes_of ids frame) at before) before

@@ -3,6 +3,7 @@
 --             before the next and the first L or more after the moment, is its open pair until the next frame
 --   follows   so it is after each history
 -- Assumes nothing.
+use Rattle.std.specs.Prelude.{Err, Ok, Option, Some}
 use Prim.Native.Nat.{ℕ, zero, suc, ◌+◌, ◌≤◌, ◌<◌}
 use mathlib.Core.Path.{◌≡◌, refl, sym, ap, subst}
 use mathlib.Core.Bool.{Bool, true, false, cond}
@@ -16,15 +17,12 @@ use Rattle.frame.specs.declared.values.Sync.{Sync}
 use Rattle.frame.specs.declared.values.Fup.{Fup}
 use Rattle.frame.specs.declared.values.Frame.{Frame}
 use Rattle.frame.specs.declared.values.Frame.TheVariants.{Sync as sync, Fup as fup}
-use Rattle.frame_read.specs.declared.Read.TheVariants.{Values}
 use Rattle.frame_read.specs.Read.{read_of}
 use Rattle.settings.specs.declared.domain_settings.DomainSettings.{DomainSettings}
 use Rattle.settings.specs.Domain.{slave_held}
 use Rattle.domain.specs.declared.Domain.{Domain}
 use Rattle.domain.specs.declared.LastSync.{LastSync}
 use Rattle.domain.specs.declared.LastSync.TheVariants.{Unknown, Seen}
-use Rattle.domain.specs.declared.Pairing.{Pairing}
-use Rattle.domain.specs.declared.Pairing.TheVariants.{Open}
 use Rattle.slave_counter.specs.declared.CounterVerdict.{CounterVerdict}
 use Rattle.slave_counter.specs.declared.CounterVerdict.TheVariants.{Free, Good, NotGood}
 use Rattle.slave_counter.specs.declared.RowCheck.{RowCheck}
@@ -32,11 +30,8 @@ use Rattle.slave_counter.specs.declared.RowCheck.TheVariants.{NotGood as not_goo
 use Rattle.slave_counter.specs.Counter.{jump_of, verdict_of}
 use Rattle.slave_counter.specs.Row.{row_of, with_row, row_refused}
 use Rattle.slave_counter.proofs.Laws.{Checked, not_joined as refuses, begins, alone, joins, completes, checked}
-use Rattle.slave_pair.specs.declared.joining.Joined.{Joined}
-use Rattle.slave_pair.specs.declared.joining.Joined.TheVariants.{With, Refused}
 use Rattle.slave_pair.specs.Pair.{pair_of}
 use Rattle.slave_pair.specs.Join.{joined_of}
-use Rattle.slave_answer.specs.Answer.{frame_number}
 use Rattle.slave_sync.specs.Sync.{verdict_for, check_for, sync_as, sync_of}
 use Rattle.slave_fup.specs.Fup.{fup_as, fup_of}
 use Rattle.slave_frame.specs.Step.{kind_of}
@@ -88,6 +83,8 @@ use Rattle.history.proofs.Since.{
   none_since,
   nothing,
 }
+use Rattle.domain.specs.declared.Pair.{Pair}
+use Rattle.refusal.specs.Numbers.{Outcome, outcome_number}
 
 -- ---- the SYNC last accepted, with s the newest of those sent up to the frame heard last
 abbrev Counts : Newest → (c : ℕ) → Type 0
@@ -111,12 +108,12 @@ RowOk k moment last (q ∷ older) =
     (RowOk k moment last older)
 
 -- ---- the pair, with the frames heard since the moment
-abbrev pub PairOk : Link → (moment : ℕ) → Pairing → List Copy → Type 0
+abbrev pub PairOk : Link → (moment : ℕ) → Option Pair → List Copy → Type 0
 PairOk k moment p [] = Unit {0}
 PairOk k moment p (q ∷ older) =
     (c : ℕ) → SyncSent (master_settings k) k.domain c q.of →
     InRow k moment (slave_settings k).hysteresis q older →
-    p ≡ Open (pair_of q.at (sync_values (master_settings k) k.domain c q.of.time.0))
+    p ≡ Some (pair_of q.at (sync_values (master_settings k) k.domain c q.of.time.0))
 
 pub record Follows (k : Link) (moment : ℕ) (d : Domain) (s : Newest) (copies : List Copy) : Type 0 where
   pub last : LastOk k moment d.last s
@@ -312,9 +309,9 @@ module _ (k : Link) (moment : ℕ) where
       sync_follows = checked_follows _ _ refl (checked _ _ (verdict_for d q.at values))
 
   fup_as_lem :
-      (j : Joined) (d : Domain) (f : Fup) → (fup_as j d f).domain.last ≡ d.last
-  fup_as_lem (Refused r) d f = refl
-  fup_as_lem (With p) d f = refl
+      (j : Outcome Pair) (d : Domain) (f : Fup) → (fup_as j d f).domain.last ≡ d.last
+  fup_as_lem (Err r) d f = refl
+  fup_as_lem (Ok p) d f = refl
 
   fup_last : (d : Domain) (t : VirtualLocalTime) (f : Fup) → (fup_of d t f).domain.last ≡ d.last
   fup_last d t f = fup_as_lem (joined_of d.settings.follow_up_time d.pairing t f) d f
@@ -366,10 +363,10 @@ module _ (k : Link) (l : Linked k) where
   pub handed :
       (h : History) (t : VirtualLocalTime) (bytes : List ℕ) (values : Frame) →
       Fine k (at_slave (frame t bytes) ∷ h) →
-      is_heard k bytes ≡ true → read_of bytes ≡ Values values →
+      is_heard k bytes ≡ true → read_of bytes ≡ Ok values →
       (slave_record k (at_slave (frame t bytes) ∷ h) ≡ (kind_of (slave_record k h) t values).domain)
       × (answer_to (slave_after k h) (frame t bytes)
-      ≡ numbered (frame_number (kind_of (slave_record k h) t values).answer))
+      ≡ numbered (outcome_number (kind_of (slave_record k h) t values).answer))
   handed h t bytes values g heard reads =
       heard_in_time k l h g.calls.0 t bytes values heard reads g.range.1
       (kept_before k l h g.calls.0 g.fall.0 t g.fall.1)

@@ -1,6 +1,7 @@
 -- Demand 3, "set so that the slave reads the master's frames". No contract cites this file.
 --   each_frame_heard   each frame that the master sends in the domain is heard wherever it is handed in
 -- Assumes nothing.
+use Rattle.std.specs.Prelude.{Ok}
 use Prim.Native.Nat.{ℕ}
 use mathlib.Core.Path.{◌≡◌, refl, ap, ◌∙◌}
 use mathlib.Core.Bool.{Bool, true, false, ◌&&◌}
@@ -10,7 +11,6 @@ use borrow.Author.Tests.{eq-eqb}
 use Rattle.frame.specs.declared.values.Frame.{Frame}
 use Rattle.frame.specs.declared.values.Frame.TheVariants.{Sync as sync, Fup as fup}
 use Rattle.frame.specs.declared.data_ids.DataIds.{DataIds}
-use Rattle.frame_read.specs.declared.Read.TheVariants.{Values}
 use Rattle.frame_read.specs.Read.{read_of}
 use Rattle.frame_write.specs.Write.{bytes_of}
 use Rattle.frame_check.specs.declared.CheckMode.{CheckMode}
@@ -81,7 +81,7 @@ module _ (k : Link) (linked : Linked k) (reads : Reads k) where
   m = master_settings k
 
   heard_as_sent :
-      (s : Sent) (f : Frame) → domain_in f ≡ k.domain → read_of s.bytes ≡ Values f → s.bytes ≡ bytes_of m.ids f →
+      (s : Sent) (f : Frame) → domain_in f ≡ k.domain → read_of s.bytes ≡ Ok f → s.bytes ≡ bytes_of m.ids f →
       is_taken (slave_settings k).mode (slave_settings k).ids (bytes_of m.ids f) ≡ true → is_heard k s.bytes ≡ true
   heard_as_sent s f own read bytes good =
       λ j. (ap (λ r. is_read r k.domain) read ∙ eq-eqb _ _ own) j

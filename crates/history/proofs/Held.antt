@@ -2,6 +2,7 @@
 --   each_time_held   each time the slave holds is that of one SYNC, carried on to its confirmation and tied to
 --                    the slave's reading at a copy of that SYNC
 -- Assumes nothing.
+use Rattle.std.specs.Prelude.{None, Ok, Option, Some}
 use Prim.Native.Nat.{ℕ, ◌+◌, ◌≤◌}
 use mathlib.Core.Path.{◌≡◌, refl, sym, ap, ◌∙◌, subst}
 use mathlib.Core.Bool.{Bool, true, false, cond}
@@ -10,21 +11,15 @@ use mathlib.Core.List.{List, [], ◌∷◌, ◌++◌, append_assoc}
 use native.Mathlib.Omega.{arith}
 use Rattle.clock.specs.declared.reading.VirtualLocalTime.{VirtualLocalTime}
 use Rattle.clock.specs.declared.time.GlobalTime.{GlobalTime}
-use Rattle.clock.specs.declared.base.Held.{Held}
-use Rattle.clock.specs.declared.base.Held.TheVariants.{Unset, Set}
 use Rattle.clock.specs.Reading.{span_of}
 use Rattle.frame.specs.declared.values.Fup.{Fup}
 use Rattle.frame.specs.declared.values.Frame.{Frame}
 use Rattle.frame.specs.declared.values.Frame.TheVariants.{Sync as sync, Fup as fup}
-use Rattle.frame_read.specs.declared.Read.TheVariants.{Values}
 use Rattle.frame_read.specs.Read.{read_of}
 use Rattle.settings.specs.declared.domain_settings.DomainSettings.{DomainSettings}
 use Rattle.settings.specs.Domain.{slave_held}
 use Rattle.domain.specs.declared.Domain.{Domain}
 use Rattle.domain.specs.declared.Pair.{Pair}
-use Rattle.domain.specs.declared.Pairing.{Pairing}
-use Rattle.domain.specs.declared.Pairing.TheVariants.{Waiting, Open}
-use Rattle.slave_pair.specs.declared.joining.Joined.{Joined}
 use Rattle.slave_pair.proofs.Laws.{Joins, by_joined}
 use Rattle.slave_update.specs.Update.{new_base}
 use Rattle.slave_counter.specs.declared.RowCheck.{RowCheck}
@@ -81,6 +76,8 @@ use Rattle.history.proofs.Grown.{sent_grows, in_more}
 use Rattle.history.proofs.Standing.{standing, sent_past}
 use Rattle.history.proofs.Begun.{fresh_record}
 use Rattle.history.proofs.SlaveView.{slave_settings_lem, heard_as, unheard_keeps, Step, stays, steps, heard_step}
+use Rattle.clock.specs.declared.base.TimeBase.{TimeBase}
+use Rattle.refusal.specs.Numbers.{Outcome}
 
 -- ---- an open pair is of a SYNC that was sent, and a copy of it was handed in at its reading
 
@@ -97,13 +94,13 @@ pub record Paired (k : Link) (h : History) (p : Pair) : Type 0 where
   pub copy : h ≡ after ++ (at_slave (frame p.at of.bytes) ∷ before)
   pub copied : In of (sent_in k before)
 
-abbrev PairOk : Link → History → Pairing → Type 0
-PairOk k h Waiting = Unit {0}
-PairOk k h (Open p) = Paired k h p
+abbrev PairOk : Link → History → Option Pair → Type 0
+PairOk k h None = Unit {0}
+PairOk k h (Some p) = Paired k h p
 
-abbrev BaseOk : Link → History → Held → Type 0
-BaseOk k h Unset = Unit {0}
-BaseOk k h (Set b) = TimeOfOne k h b
+abbrev BaseOk : Link → History → Option TimeBase → Type 0
+BaseOk k h None = Unit {0}
+BaseOk k h (Some b) = TimeOfOne k h b
 
 record Kept (k : Link) (h : History) (d : Domain) : Type 0 where
   pair : PairOk k h d.pairing
@@ -112,9 +109,9 @@ record Kept (k : Link) (h : History) (d : Domain) : Type 0 where
 -- ---- a call later
 
 module _ (k : Link) (x : Event) (h : History) (le : now k h ≤ moment_of k x) where
-  pair_later : (p : Pairing) → PairOk k h p → PairOk k (x ∷ h) p
-  pair_later Waiting g = tt
-  pair_later (Open p) g =
+  pair_later : (p : Option Pair) → PairOk k h p → PairOk k (x ∷ h) p
+  pair_later None g = tt
+  pair_later (Some p) g =
       let more = sent_grows k x h in
       record {
         of = g.of;
@@ -130,9 +127,9 @@ module _ (k : Link) (x : Event) (h : History) (le : now k h ≤ moment_of k x) w
         copied = g.copied;
       }
 
-  base_later : (b : Held) → BaseOk k h b → BaseOk k (x ∷ h) b
-  base_later Unset g = tt
-  base_later (Set b) g =
+  base_later : (b : Option TimeBase) → BaseOk k h b → BaseOk k (x ∷ h) b
+  base_later None g = tt
+  base_later (Some b) g =
       let more = sent_grows k x h in
       record {
         sync = g.sync;
@@ -270,7 +267,7 @@ module _ (k : Link) (exceed : Exceed k) (h : History) (row : RowOf (master_setti
 
     fup_kept : Kept k (x ∷ h) (kind_of d t (fup f)).domain
     fup_kept =
-        by_joined (λ (j : Joined). Kept k (x ∷ h) (fup_as j d f).domain) d.settings.follow_up_time
+        by_joined (λ (j : Outcome Pair). Kept k (x ∷ h) (fup_as j d f).domain) d.settings.follow_up_time
         d.pairing t f still still still
         (λ p told. record { pair = tt; base = joined p (subst (PairOk k h) told.held g.pair) told })
 
@@ -280,7 +277,7 @@ module _ (k : Link) (linked : Linked k) (exceed : Exceed k) where
   -- a frame that is heard, with the values it is read as
   heard_kept :
       (h : History) → AreCalls h → NeverFall k h → (t : VirtualLocalTime) (bytes : List ℕ) → now k h ≤ on_slave k t →
-      CopyIn k h (record { bytes = bytes; at = t }) → (values : Frame) → read_of bytes ≡ Values values →
+      CopyIn k h (record { bytes = bytes; at = t }) → (values : Frame) → read_of bytes ≡ Ok values →
       Kept k h (slave_record k h) → Kept k (at_slave (frame t bytes) ∷ h) (kind_of (slave_record k h) t values).domain
   heard_kept h calls falls t bytes le copy values reads g =
       ⊎_elim
@@ -319,11 +316,11 @@ module _ (k : Link) (linked : Linked k) (exceed : Exceed k) where
 
       -- the values that were sent are those that are read
       read_as :
-          (v : Frame) → read_of copy.of.bytes ≡ Values v →
+          (v : Frame) → read_of copy.of.bytes ≡ Ok v →
           Kept k (at_slave (frame t bytes) ∷ h) (kind_of (slave_record k h) t v).domain →
           Kept k (at_slave (frame t bytes) ∷ h) (kind_of (slave_record k h) t values).domain
       read_as v back kept =
-          let both : Values v ≡ Values values = sym back ∙ ap read_of (sym copy.copied.same) ∙ reads in
+          let both : Ok v ≡ Ok values = sym back ∙ ap read_of (sym copy.copied.same) ∙ reads in
           let same : v ≡ values = cc in
           subst (λ (w : Frame). Kept k (at_slave (frame t bytes) ∷ h) (kind_of (slave_record k h) t w).domain) same kept
 
@@ -341,7 +338,7 @@ module _ (k : Link) (linked : Linked k) (exceed : Exceed k) where
       here = record { bytes = bytes; at = t }
 
       stepped :
-          (values : Frame) → read_of bytes ≡ Values values → CopyIn k h here →
+          (values : Frame) → read_of bytes ≡ Ok values → CopyIn k h here →
           (d : Domain) → Step k h t values d → Done d
       stepped values reads copy d stays = kept_later k (at_slave (frame t bytes)) h le (slave_record k h) g
       stepped values reads copy d (steps onward) = heard_kept h calls falls t bytes le copy values reads g

@@ -2,6 +2,7 @@
 --   Moves            what a call at t may do to a record and to the list of what was sent in its domain
 --   master_moves     what a call of a good node does to a master's record, and gives in its domain, is such a move
 -- Assumes nothing.
+use Rattle.std.specs.Prelude.{Err, Ok, Option, Result, ⊤}
 use Prim.Native.Nat.{ℕ, zero, suc, ◌%◌, ◌≤◌, ◌<◌}
 use mathlib.Core.Path.{◌≡◌, refl, sym, ap, ◌∙◌, subst}
 use mathlib.Core.Bool.{Bool, true, false, and-false}
@@ -22,40 +23,30 @@ use Rattle.clock.specs.Base.{time_at}
 use Rattle.frame.specs.declared.data_ids.DataIds.{DataIds}
 use Rattle.frame.specs.declared.values.Frame.{Frame}
 use Rattle.frame.specs.declared.values.Frame.TheVariants.{Sync as sync, Fup as fup}
-use Rattle.frame_read.specs.declared.Read.{Read}
-use Rattle.frame_read.specs.declared.Read.TheVariants.{LengthNot8, NoSuchType, Values}
 use Rattle.frame_read.specs.Read.{read_of}
 use Rattle.frame_write.specs.Write.{bytes_of}
 use Rattle.frame_write.proofs.Laws.{bytes_length}
 use Rattle.settings.specs.declared.domain_settings.Role.{Role}
 use Rattle.settings.specs.declared.domain_settings.Role.TheVariants.{Master}
 use Rattle.admission.specs.declared.Needed.TheVariants.{Master as master}
-use Rattle.admission.specs.declared.Admission.{Admission}
 use Rattle.admission.specs.Reading.{is_good_reading}
 use Rattle.admission.proofs.Laws.{good_reading, by_admission, master_admitted}
-use Rattle.admission.specs.declared.frames.FrameAdmission.{FrameAdmission}
 use Rattle.frame.specs.Values.{domain_in}
 use Rattle.admission.specs.FrameAdmission.{read_for}
 use Rattle.domain.specs.declared.Domain.{Domain}
-use Rattle.master_rules.specs.declared.due.Due.{Due}
 use Rattle.master_rules.proofs.Laws.{DueAt, by_due}
-use Rattle.master_follow.specs.declared.Follow.{Follow}
-use Rattle.master_follow.specs.declared.Follow.TheVariants.{With}
 use Rattle.master_follow.specs.Follow.{whole_of, ovs_of}
 use Rattle.master_follow.proofs.Laws.{OpenFor, by_follow}
-use Rattle.master_set.specs.declared.SetStep.{SetStep}
 use Rattle.master_send.specs.Send.{sent_of, send_as}
-use Rattle.master_confirm.specs.Confirm.{confirm_number, followed_of, confirm_as}
+use Rattle.master_confirm.specs.Confirm.{followed_of, confirm_as}
 use Rattle.call_frame.specs.FrameCall.{frame_call_as, frame_call_of}
 use Rattle.call_set.specs.SetCall.{set_stepped, set_call_as, set_call_of}
-use Rattle.call_confirm.specs.declared.ConfirmCall.{ConfirmCall}
 use Rattle.call_confirm.specs.ConfirmCall.{confirm_stepped, confirm_call_as, confirm_call_of, confirm_bytes}
 use Rattle.domain.specs.Records.{record_at}
 use Rattle.round.specs.Round.{frames_by, sent_after, goes}
 use Rattle.round.specs.Turn.{turn_of, next_after}
 use Rattle.node.specs.declared.Node.{Node}
 use Rattle.node.specs.Frame.{addressed_by}
-use Rattle.node.specs.declared.cycles.NodeCycle.{NodeCycle}
 use Rattle.node.specs.CycleAnswer.{cycle_count}
 use Rattle.node.specs.Cycle.{is_room_for, node_cycle_of, cycle_bytes}
 use Rattle.node_call.specs.Calls.{
@@ -79,6 +70,15 @@ use Rattle.node_laws.proofs.Bounds.{sent_within_lem, ovs_here}
 use Rattle.history.specs.History.{Sent, noted}
 use Rattle.history.proofs.Placed.{placed}
 use Rattle.history.proofs.Row.{sync_values, fup_values}
+use Rattle.domain.specs.declared.DomainCall.{DomainCall}
+use Rattle.domain.specs.declared.DomainStep.{DomainStep}
+use Rattle.frame.specs.declared.values.Fup.{Fup}
+use Rattle.frame_read.specs.declared.NoFrame.{NoFrame}
+use Rattle.frame_read.specs.declared.NoFrame.TheVariants.{LengthNot8, NoSuchType}
+use Rattle.master_follow.specs.declared.Follow.{Follow}
+use Rattle.master_rules.specs.declared.due.Due.{Due}
+use Rattle.node.specs.declared.NodeStep.{NodeStep}
+use Rattle.refusal.specs.Numbers.{Outcome, outcome_number}
 
 -- ---- the frames of a record at t: its SYNC of base b, and the FUP of what it sent at `at` with time `from`
 abbrev pub sync_of : VirtualLocalTime → Domain → TimeBase → Frame
@@ -135,7 +135,7 @@ module _ (i : ℕ) (below : i < places) (t : VirtualLocalTime) (g : GlobalTime) 
   turn_here false d e rest l n next = next l
   turn_here true d e rest l n next =
       by_due
-      (λ (due : Due).
+      (λ (due : Option Due).
       ((m : List Sent) → Moves t g (send_as due d t).domain m e (noted i t g rest m)) →
       Moves t g d l e (noted i t g (frames_by (send_as due d t).answer d.settings.ids ++ rest) l))
       d.settings.role d.settings.period d.base d.sending t
@@ -151,7 +151,7 @@ module _ (i : ℕ) (below : i < places) (t : VirtualLocalTime) (g : GlobalTime) 
   turn_there false d rest l h n = refl
   turn_there true d rest l h n =
       by_due
-      (λ (due : Due).
+      (λ (due : Option Due).
       noted i t g (frames_by (send_as due d t).answer d.settings.ids ++ rest) l ≡ noted i t g rest l)
       d.settings.role d.settings.period d.base d.sending t refl
       (λ b told. none_of d.settings.ids (sync_of t d b) rest l h n)
@@ -190,11 +190,11 @@ module _ (i : ℕ) (below : i < places) (t : VirtualLocalTime) (g : GlobalTime) 
 
 -- a master takes no frame
 frame_refused :
-    (r : Read) (own : ℕ) (role : Role) (d : Domain) (kept t : VirtualLocalTime) (bytes : List ℕ) → role ≡ Master →
+    (r : Result Frame NoFrame) (own : ℕ) (role : Role) (d : Domain) (kept t : VirtualLocalTime) (bytes : List ℕ) → role ≡ Master →
     (frame_call_as (read_for r own role) d kept t bytes).domain ≡ d
-frame_refused LengthNot8 own role d kept t bytes e = refl
-frame_refused NoSuchType own role d kept t bytes e = refl
-frame_refused (Values values) own role d kept t bytes e = rw (e, and-false (eqb (domain_in values) own))
+frame_refused (Err LengthNot8) own role d kept t bytes e = refl
+frame_refused (Err NoSuchType) own role d kept t bytes e = refl
+frame_refused (Ok values) own role d kept t bytes e = rw (e, and-false (eqb (domain_in values) own))
 
 module _ (n : Node) (good : Good n) (i : ℕ) (below : i < places)
     (role : (record_at n.domains i).settings.role ≡ Master)
@@ -212,23 +212,23 @@ module _ (n : Node) (good : Good n) (i : ℕ) (below : i < places)
   frame_moves : (t : VirtualLocalTime) (bytes : List ℕ) → Moves t g d l (frame_call_of d n.kept t bytes).domain l
   frame_moves t bytes =
       unmoved t g d _ l
-      (either (λ (a : FrameAdmission). (frame_call_as a d n.kept t bytes).domain ≡ d) (is_good_reading n.kept t)
+      (either (λ (a : Outcome Frame). (frame_call_as a d n.kept t bytes).domain ≡ d) (is_good_reading n.kept t)
       (frame_refused (read_of bytes) d.number d.settings.role d n.kept t bytes role) refl)
 
   -- ---- a set
   set_moves :
       (t : VirtualLocalTime) (asked s ns : ℕ) → Moves t g d l (set_call_of d n.kept asked t s ns).domain l
   set_moves t asked s ns =
-      by_admission (λ (a : Admission). Moves t g d l (set_call_as a d n.kept t s ns).domain l) n.kept t
+      by_admission (λ (a : Outcome ⊤). Moves t g d l (set_call_as a d n.kept t s ns).domain l) n.kept t
       d.number d.settings.role asked master
       (λ tested.
-      either (λ (x : SetStep). Moves t g d l (set_stepped x n.kept t).domain l) (leb ns 999999999)
+      either (λ (x : DomainStep (Outcome ⊤)). Moves t g d l (set_stepped x n.kept t).domain l) (leb ns 999999999)
       (stays d _ l refl refl refl) (as_it_was t))
       (as_it_was t) (as_it_was t)
 
   -- ---- a main cycle
   module _ (t : VirtualLocalTime) (out : List ℕ) where
-    abbrev CycleMoves : NodeCycle → Type 0
+    abbrev CycleMoves : NodeStep (Outcome ℕ) → Type 0
     CycleMoves r =
         Moves t g d l (record_at r.node.domains i)
         (noted i t g (eights (cycle_count r.answer) (cycle_bytes r.answer n t out)) l)
@@ -252,23 +252,23 @@ module _ (n : Node) (good : Good n) (i : ℕ) (below : i < places)
     abbrev c : Domain
     c = record_at n.domains (asked % places)
 
-    abbrev ConfirmMoves : ConfirmCall → Type 0
+    abbrev ConfirmMoves : DomainCall (Outcome Fup) → Type 0
     ConfirmMoves r =
         Moves t g d l (record_at (put n.domains (asked % places) r.domain) i)
         (noted i t g
-        (given_by (answers (confirm_number r.answer) (confirm_bytes r.answer c.settings.ids out))) l)
+        (given_by (answers (outcome_number r.answer) (confirm_bytes r.answer c.settings.ids out))) l)
 
     kept_here : Moves t g d l (record_at (put n.domains (asked % places) c) i) l
     kept_here =
         unmoved t g d _ l (ap (λ (ds : List Domain). record_at ds i) (set-get_or n.domains (asked % places) _))
 
-    abbrev Stepped : Follow → Type 0
+    abbrev Stepped : Outcome Follow → Type 0
     Stepped f = ConfirmMoves (confirm_stepped (confirm_as f c counter) n.kept t)
 
     followed :
         (from : GlobalTime) (at : VirtualLocalTime) →
         OpenFor c.settings.confirmation_time c.sending t counter from at → ovs_of from at t ≤ 3 →
-        at.0 ≤ t.0 → Stepped (With (ovs_of from at t) (whole_of from at t).1 at)
+        at.0 ≤ t.0 → Stepped (Ok (record { ovs = ovs_of from at t; nanoseconds = (whole_of from at t).1; sent_at = at }))
     followed from at told few late =
         let after = (followed_of c counter (ovs_of from at t) (whole_of from at t).1 at).domain in
         let ids = c.settings.ids in
@@ -287,7 +287,7 @@ module _ (n : Node) (good : Good n) (i : ℕ) (below : i < places)
 
     confirm_moves : ConfirmMoves (confirm_call_of c n.kept asked t counter (length out))
     confirm_moves =
-        by_admission (λ (a : Admission). ConfirmMoves (confirm_call_as a c n.kept t counter (length out))) n.kept t
+        by_admission (λ (a : Outcome ⊤). ConfirmMoves (confirm_call_as a c n.kept t counter (length out))) n.kept t
         c.number c.settings.role asked master
         (λ tested.
         by_follow Stepped c.settings.confirmation_time c.sending t counter (leb 8 (length out)) kept_here

@@ -9,6 +9,7 @@
 --   sync_read, fup_read     the frames are read as the values sent
 --   never_rise              nothing in a row was sent after what follows it
 -- Assumes nothing.
+use Rattle.std.specs.Prelude.{Ok}
 use Prim.Native.Nat.{ℕ, suc, ◌+◌, ◌-◌, ◌*◌, ◌%◌, ◌≤◌, ◌<◌}
 use mathlib.Core.Path.{◌≡◌, refl, sym, ap, ◌∙◌, subst}
 use mathlib.Core.Bool.{Bool, true, false, ◌||◌, true≢false}
@@ -28,7 +29,6 @@ use Rattle.clock.specs.declared.time.GlobalTime.{GlobalTime}
 use Rattle.clock.specs.Reading.{span_of}
 use Rattle.clock.specs.Time.{advanced}
 use Rattle.frame.specs.ByteTwo.{byte_two_of}
-use Rattle.frame_read.specs.declared.Read.TheVariants.{Values}
 use Rattle.frame_read.specs.Read.{read_of}
 use Rattle.frame_write.specs.Write.{framed_of}
 use Rattle.frame_laws.proofs.Laws.{read_back}
@@ -265,7 +265,7 @@ module _ (m : DomainSettings) (i : ℕ) where
   -- ---- the frames are read as the values sent
   pub sync_read :
       (c : ℕ) (y : Sent) → i < places → SyncSent m i c y →
-      read_of y.bytes ≡ Values (sync (sync_values m i c y.time.0))
+      read_of y.bytes ≡ Ok (sync (sync_values m i c y.time.0))
   sync_read c y h s =
       ap read_of s.bytes
       ∙ read_back m.ids (sync (sync_values m i c y.time.0))
@@ -274,7 +274,7 @@ module _ (m : DomainSettings) (i : ℕ) where
   pub fup_read :
       (c : ℕ) (y f : Sent) → i < places → c < 16 → FupSent m i c y f →
       read_of f.bytes
-      ≡ Values (fup (fup_values m i c (ovs_of y.time y.at f.at) (whole_of y.time y.at f.at).1))
+      ≡ Ok (fup (fup_values m i c (ovs_of y.time y.at f.at) (whole_of y.time y.at f.at).1))
   fup_read c y f h small s =
       ap read_of s.bytes
       ∙ read_back m.ids

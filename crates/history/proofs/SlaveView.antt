@@ -7,6 +7,7 @@
 --   heard_in_time    in range and in order it makes the step, and answers the step's number
 --   kept_before      the kept reading is not after a reading that the scale allows
 -- Assumes nothing.
+use Rattle.std.specs.Prelude.{Err, Ok, Result, ⊤}
 use Prim.Native.Nat.{ℕ, ◌%◌, ◌≤◌, ◌<◌}
 use mathlib.Core.Path.{◌≡◌, refl, sym, ap, subst, ◌∙◌}
 use mathlib.Core.Bool.{Bool, true, false, cond, ◌&&◌}
@@ -25,8 +26,6 @@ use Rattle.frame.specs.declared.values.Sync.{Sync}
 use Rattle.frame.specs.declared.values.Fup.{Fup}
 use Rattle.frame.specs.declared.values.Frame.{Frame}
 use Rattle.frame.specs.declared.values.Frame.TheVariants.{Sync as sync, Fup as fup}
-use Rattle.frame_read.specs.declared.Read.{Read}
-use Rattle.frame_read.specs.declared.Read.TheVariants.{LengthNot8, NoSuchType, Values}
 use Rattle.frame_read.specs.Read.{read_of}
 use Rattle.frame_read.proofs.Laws.{Names, read_names}
 use Rattle.frame_check.specs.Check.{is_taken}
@@ -34,41 +33,27 @@ use Rattle.settings.specs.declared.domain_settings.DomainSettings.{DomainSetting
 use Rattle.settings.specs.declared.domain_settings.Role.{Role}
 use Rattle.settings.specs.declared.domain_settings.Role.TheVariants.{Slave}
 use Rattle.settings.specs.Domain.{slave_held, held_as}
-use Rattle.settings.specs.declared.node_settings.Verdict.{Verdict}
 use Rattle.admission.specs.declared.Needed.TheVariants.{Slave as slave, Master as master}
-use Rattle.admission.specs.declared.Admission.{Admission}
-use Rattle.admission.specs.declared.Admission.TheVariants.{Admitted, Refused}
 use Rattle.admission.specs.Reading.{is_good_reading}
 use Rattle.admission.specs.Admission.{is_in, is_for, admitted_of}
 use Rattle.admission.proofs.Laws.{good_reading, by_admission}
-use Rattle.admission.specs.declared.frames.FrameAdmission.{FrameAdmission}
-use Rattle.admission.specs.declared.frames.FrameAdmission.TheVariants.{
-  Admitted as frame_admitted_one,
-  Refused as frame_refused,
-}
 use Rattle.frame.specs.Values.{domain_in}
 use Rattle.admission.specs.FrameAdmission.{read_for, frame_admitted}
 use Rattle.domain.specs.declared.Domain.{Domain}
-use Rattle.slave_pair.specs.declared.joining.Joined.{Joined}
-use Rattle.slave_pair.specs.declared.joining.Joined.TheVariants.{With, Refused as not_joined}
 use Rattle.slave_pair.specs.Join.{joined_of}
-use Rattle.slave_answer.specs.Answer.{frame_number}
-use Rattle.slave_answer.specs.declared.FrameStep.{FrameStep}
 use Rattle.slave_counter.specs.declared.RowCheck.{RowCheck}
 use Rattle.slave_counter.specs.declared.RowCheck.TheVariants.{NotGood, Joins, Complete}
 use Rattle.slave_sync.specs.Sync.{check_for, sync_as}
 use Rattle.slave_fup.specs.Fup.{fup_as}
 use Rattle.slave_frame.specs.Step.{kind_of, frame_of}
-use Rattle.master_set.specs.Set.{set_number, set_of}
-use Rattle.master_confirm.specs.Confirm.{confirm_number, confirm_of}
-use Rattle.call_frame.specs.declared.FrameCall.{FrameCall}
+use Rattle.master_set.specs.Set.{set_of}
+use Rattle.master_confirm.specs.Confirm.{confirm_of}
 use Rattle.call_frame.specs.FrameCall.{frame_stepped, frame_call_as, frame_call_of}
 use Rattle.call_set.specs.SetCall.{set_call_as, set_call_of}
 use Rattle.call_confirm.specs.ConfirmCall.{confirm_call_as, confirm_call_of}
 use Rattle.domain.specs.Records.{record_at}
 use Rattle.node.specs.declared.Node.{Node}
 use Rattle.node.specs.New.{new_as}
-use Rattle.node.specs.declared.cycles.NodeCycle.{NodeCycle}
 use Rattle.node.specs.Cycle.{is_room_for}
 use Rattle.node.specs.Frame.{addressed_by}
 use Rattle.node_call.specs.Calls.{Call, frame, read, set, cycle, confirm, reading_of, node_after, numbered, answer_to}
@@ -93,6 +78,14 @@ use Rattle.history.specs.History.{
 use Rattle.history.specs.Demand.{Linked, AreCalls, now, NeverFall}
 use Rattle.history.proofs.Placed.{placed}
 use Rattle.history.proofs.Begun.{fresh_record}
+use Rattle.domain.specs.declared.DomainCall.{DomainCall}
+use Rattle.domain.specs.declared.DomainStep.{DomainStep}
+use Rattle.domain.specs.declared.Pair.{Pair}
+use Rattle.frame_read.specs.declared.NoFrame.{NoFrame}
+use Rattle.frame_read.specs.declared.NoFrame.TheVariants.{LengthNot8, NoSuchType}
+use Rattle.node.specs.declared.NodeStep.{NodeStep}
+use Rattle.refusal.specs.Numbers.{Outcome, outcome_number}
+use Rattle.slave_answer.specs.declared.Taken.{Taken}
 
 -- ---- the slave's node
 
@@ -113,7 +106,7 @@ not_set :
     (d : Domain) (kept : VirtualLocalTime) (asked : ℕ) (t : VirtualLocalTime) (s ns : ℕ) →
     d.settings.role ≡ Slave → (set_call_of d kept asked t s ns).domain ≡ d
 not_set d kept asked t s ns is =
-    by_admission (λ (a : Admission). (set_call_as a d kept t s ns).domain ≡ d) kept t d.number d.settings.role
+    by_admission (λ (a : Outcome ⊤). (set_call_as a d kept t s ns).domain ≡ d) kept t d.number d.settings.role
     asked master
     (λ tested. no_master d.settings.role is tested.in_role) refl refl
 
@@ -121,7 +114,7 @@ not_followed :
     (d : Domain) (kept : VirtualLocalTime) (asked : ℕ) (t : VirtualLocalTime) (counter length : ℕ) →
     d.settings.role ≡ Slave → (confirm_call_of d kept asked t counter length).domain ≡ d
 not_followed d kept asked t counter length is =
-    by_admission (λ (a : Admission). (confirm_call_as a d kept t counter length).domain ≡ d) kept t d.number
+    by_admission (λ (a : Outcome ⊤). (confirm_call_as a d kept t counter length).domain ≡ d) kept t d.number
     d.settings.role asked master
     (λ tested. no_master d.settings.role is tested.in_role) refl refl
 
@@ -165,12 +158,12 @@ abbrev Holds : DomainSettings → Domain → Type 0
 Holds s d = d.settings ≡ s
 
 module _ (d : Domain) (t : VirtualLocalTime) where
-  abbrev StepHolds : FrameStep → Type 0
+  abbrev StepHolds : DomainStep (Outcome Taken) → Type 0
   StepHolds x = Holds d.settings x.domain
 
-  fup_holds : (j : Joined) (f : Fup) → StepHolds (fup_as j d f)
-  fup_holds (not_joined refusal) f = refl
-  fup_holds (With p) f = refl
+  fup_holds : (j : Outcome Pair) (f : Fup) → StepHolds (fup_as j d f)
+  fup_holds (Err refusal) f = refl
+  fup_holds (Ok p) f = refl
 
   sync_holds : (k : RowCheck) (s : Sync) → StepHolds (sync_as k d t s)
   sync_holds (NotGood row) s = refl
@@ -182,10 +175,10 @@ module _ (d : Domain) (t : VirtualLocalTime) where
   kind_holds (fup f) = fup_holds (joined_of d.settings.follow_up_time d.pairing t f) f
 
   call_holds :
-      (a : FrameAdmission) (kept : VirtualLocalTime) (bytes : List ℕ) →
+      (a : Outcome Frame) (kept : VirtualLocalTime) (bytes : List ℕ) →
       Holds d.settings (frame_call_as a d kept t bytes).domain
-  call_holds (frame_refused refusal) kept bytes = refl
-  call_holds (frame_admitted_one values) kept bytes =
+  call_holds (Err refusal) kept bytes = refl
+  call_holds (Ok values) kept bytes =
       either StepHolds (is_taken d.settings.mode d.settings.ids bytes) (kind_holds values) refl
 
 framed_holds :
@@ -230,30 +223,30 @@ slave_role k l h a = ap (λ (x : DomainSettings). x.role) (slave_settings_lem k 
 
 pub record HeardAs (k : Link) (bytes : List ℕ) : Type 0 where
   pub values : Frame
-  pub reads : read_of bytes ≡ Values values
+  pub reads : read_of bytes ≡ Ok values
   pub domain : domain_in values ≡ k.domain
 
 pub heard_as : (k : Link) (bytes : List ℕ) → is_heard k bytes ≡ true → HeardAs k bytes
 heard_as k bytes e = go (read_of bytes) refl (both (is_read (read_of bytes) k.domain) _ e).0
   where
-    go : (r : Read) → read_of bytes ≡ r → is_read r k.domain ≡ true → HeardAs k bytes
-    go LengthNot8 same is = let no : ◌≡◌ {A = ℕ} 0 1 = cc in absurd (omega arith)
-    go NoSuchType same is = let no : ◌≡◌ {A = ℕ} 0 1 = cc in absurd (omega arith)
-    go (Values values) same is = record { values = values; reads = same; domain = eqb-true _ _ is }
+    go : (r : Result Frame NoFrame) → read_of bytes ≡ r → is_read r k.domain ≡ true → HeardAs k bytes
+    go (Err LengthNot8) same is = let no : ◌≡◌ {A = ℕ} 0 1 = cc in absurd (omega arith)
+    go (Err NoSuchType) same is = let no : ◌≡◌ {A = ℕ} 0 1 = cc in absurd (omega arith)
+    go (Ok values) same is = record { values = values; reads = same; domain = eqb-true _ _ is }
 
 -- ---- one that is not
 
 module _ (d : Domain) (kept t : VirtualLocalTime) (bytes : List ℕ) where
-  abbrev Leaves : FrameAdmission → Type 0
+  abbrev Leaves : Outcome Frame → Type 0
   Leaves a = (frame_call_as a d kept t bytes).domain ≡ d
 
   read_leaves :
-      (r : Read) →
+      (r : Result Frame NoFrame) →
       (is_read r d.number && is_taken d.settings.mode d.settings.ids bytes) ≡ false →
       Leaves (read_for r d.number d.settings.role)
-  read_leaves LengthNot8 e = refl
-  read_leaves NoSuchType e = refl
-  read_leaves (Values values) e =
+  read_leaves (Err LengthNot8) e = refl
+  read_leaves (Err NoSuchType) e = refl
+  read_leaves (Ok values) e =
       either_told Leaves (is_for d.number d.settings.role (domain_in values) slave)
       (λ for.
       let own = (both (eqb (domain_in values) d.number) (is_in d.settings.role slave) for).0 in
@@ -300,12 +293,12 @@ own_place k l bytes e =
 
 heard_call :
     (d : Domain) (kept t : VirtualLocalTime) (bytes : List ℕ) (values : Frame) → d.settings.role ≡ Slave →
-    hears d bytes ≡ true → read_of bytes ≡ Values values → is_good_reading kept t ≡ true →
+    hears d bytes ≡ true → read_of bytes ≡ Ok values → is_good_reading kept t ≡ true →
     frame_call_of d kept t bytes ≡ frame_stepped (kind_of d t values) kept t
 heard_call d kept t bytes values is e reads good =
     let tests = both (is_read (read_of bytes) d.number) (is_taken d.settings.mode d.settings.ids bytes) e in
     let own : eqb (domain_in values) d.number ≡ true =
-    subst (λ (r : Read). is_read r d.number ≡ true) reads tests.0
+    subst (λ (r : Result Frame NoFrame). is_read r d.number ≡ true) reads tests.0
     in
     rw (good, reads, own, is, tests.1) refl
 
@@ -314,8 +307,8 @@ pub data Step (k : Link) (h : History) (t : VirtualLocalTime) (values : Frame) :
   steps : (slave_after k h).kept.0 ≤ t.0 → Step k h t values (kind_of (slave_record k h) t values).domain
 
 module _ (k : Link) (l : Linked k) (h : History) (a : AreCalls h) (t : VirtualLocalTime) (bytes : List ℕ)
-    (values : Frame) (e : is_heard k bytes ≡ true) (reads : read_of bytes ≡ Values values) where
-  abbrev given : FrameCall
+    (values : Frame) (e : is_heard k bytes ≡ true) (reads : read_of bytes ≡ Ok values) where
+  abbrev given : DomainCall (Outcome Taken)
   given = frame_call_of (slave_record k h) (slave_after k h).kept t bytes
 
   given_here : slave_record k (at_slave (frame t bytes) ∷ h) ≡ given.domain
@@ -333,7 +326,7 @@ module _ (k : Link) (l : Linked k) (h : History) (a : AreCalls h) (t : VirtualLo
   stepped :
       is_good_reading (slave_after k h).kept t ≡ true →
       slave_record k (at_slave (frame t bytes) ∷ h) ≡ (kind_of (slave_record k h) t values).domain
-  stepped good = given_here ∙ ap (λ (r : FrameCall). r.domain) (given_as good)
+  stepped good = given_here ∙ ap (λ (r : DomainCall (Outcome Taken)). r.domain) (given_as good)
 
   pub heard_step : Step k h t values (slave_record k (at_slave (frame t bytes) ∷ h))
   heard_step = go (is_good_reading (slave_after k h).kept t) refl
@@ -348,31 +341,31 @@ module _ (k : Link) (l : Linked k) (h : History) (a : AreCalls h) (t : VirtualLo
   pub heard_in_time :
       is_reading t ≡ true → (slave_after k h).kept.0 ≤ t.0 →
       (slave_record k (at_slave (frame t bytes) ∷ h) ≡ (kind_of (slave_record k h) t values).domain)
-      × (answer_to (slave_after k h) (frame t bytes) ≡ numbered (frame_number (kind_of (slave_record k h) t values).answer))
+      × (answer_to (slave_after k h) (frame t bytes) ≡ numbered (outcome_number (kind_of (slave_record k h) t values).answer))
   heard_in_time range later =
       let good : is_good_reading (slave_after k h).kept t ≡ true = rw (range, le-leb _ _ later) refl in (
         stepped good,
-        rw (own_place k l bytes e) (ap (λ (r : FrameCall). numbered (frame_number r.answer)) (given_as good)),
+        rw (own_place k l bytes e) (ap (λ (r : DomainCall (Outcome Taken)). numbered (outcome_number r.answer)) (given_as good)),
       )
 
 -- ---- the kept reading: the one before, or the call's
 
 module _ (P : VirtualLocalTime → Type 0) (kept t : VirtualLocalTime) (old : P kept) (new : P t) where
-  frame_keeps : (f : FrameAdmission) (d : Domain) (bytes : List ℕ) → P (frame_call_as f d kept t bytes).kept
-  frame_keeps (frame_refused refusal) d bytes = old
-  frame_keeps (frame_admitted_one values) d bytes =
-      let number = frame_number (frame_of d t bytes values).answer in
+  frame_keeps : (f : Outcome Frame) (d : Domain) (bytes : List ℕ) → P (frame_call_as f d kept t bytes).kept
+  frame_keeps (Err refusal) d bytes = old
+  frame_keeps (Ok values) d bytes =
+      let number = outcome_number (frame_of d t bytes values).answer in
       either P (eqb number 15) new (either P (eqb number 0) new old)
 
-  set_keeps : (f : Admission) (d : Domain) (s ns : ℕ) → P (set_call_as f d kept t s ns).kept
-  set_keeps (Refused refusal) d s ns = old
-  set_keeps Admitted d s ns = either P (eqb (set_number (set_of d t s ns).answer) 0) new old
+  set_keeps : (f : Outcome ⊤) (d : Domain) (s ns : ℕ) → P (set_call_as f d kept t s ns).kept
+  set_keeps (Err refusal) d s ns = old
+  set_keeps (Ok tt) d s ns = either P (eqb (outcome_number (set_of d t s ns).answer) 0) new old
 
   confirm_keeps :
-      (f : Admission) (d : Domain) (counter length : ℕ) → P (confirm_call_as f d kept t counter length).kept
-  confirm_keeps (Refused refusal) d counter length = old
-  confirm_keeps Admitted d counter length =
-      either P (eqb (confirm_number (confirm_of d t counter (leb 8 length)).answer) 0) new old
+      (f : Outcome ⊤) (d : Domain) (counter length : ℕ) → P (confirm_call_as f d kept t counter length).kept
+  confirm_keeps (Err refusal) d counter length = old
+  confirm_keeps (Ok tt) d counter length =
+      either P (eqb (outcome_number (confirm_of d t counter (leb 8 length)).answer) 0) new old
 
 call_keeps :
     (P : VirtualLocalTime → Type 0) (n : Node) (c : Call) → P n.kept → P (reading_of c) → P (node_after n c).kept
@@ -384,7 +377,7 @@ call_keeps P n (set domain t s ns) old new =
     let d = record_at n.domains (domain % places) in
     set_keeps P n.kept t old new (admitted_of n.kept t d.number d.settings.role domain master) d s ns
 call_keeps P n (cycle t out) old new =
-    let Q : NodeCycle → Type 0 = λ r. P r.node.kept in
+    let Q : NodeStep (Outcome ℕ) → Type 0 = λ r. P r.node.kept in
     either Q (is_good_reading n.kept t) (either Q (is_room_for n (length out)) new old) old
 call_keeps P n (confirm domain t counter out) old new =
     let d = record_at n.domains (domain % places) in
@@ -395,7 +388,7 @@ pub kept_before :
     (k : Link) → Linked k → (h : History) → AreCalls h → NeverFall k h → (t : VirtualLocalTime) →
     now k h ≤ on_slave k t → (slave_after k h).kept.0 ≤ t.0
 kept_before k l [] a f t le =
-    subst (λ (v : Verdict). (new_as v k.slave).node.kept.0 ≤ t.0) (sym l.good_slave) (omega arith)
+    subst (λ (v : Outcome ⊤). (new_as v k.slave).node.kept.0 ≤ t.0) (sym l.good_slave) (omega arith)
 kept_before k l (at_master c ∷ h) a f t le = kept_before k l h a.0 f.0 t (omega (arith, f.1, le))
 kept_before k l (at_slave c ∷ h) a f t le =
     call_keeps (λ (r : VirtualLocalTime). r.0 ≤ t.0) (slave_after k h) c

@@ -2,6 +2,7 @@
 --   standing       the frames of the domain follow one another as a row, whatever the history
 --   sent_past      where readings never fall, each was sent at the newest one or before
 -- Assumes nothing.
+use Rattle.std.specs.Prelude.{Option}
 use Prim.Native.Nat.{ℕ, ◌%◌, ◌≤◌}
 use mathlib.Core.Path.{◌≡◌, refl, sym, ap, ◌∙◌, subst}
 use mathlib.Core.Logic.{◌⊎◌, inl, inr, ⊎_elim}
@@ -15,7 +16,6 @@ use Rattle.promise.proofs.Tests.{either}
 use Rattle.clock.specs.declared.reading.VirtualLocalTime.{VirtualLocalTime}
 use Rattle.clock.specs.declared.time.GlobalTime.{GlobalTime}
 use Rattle.clock.specs.declared.base.TimeBase.{TimeBase}
-use Rattle.clock.specs.declared.base.Held.{Held}
 use Rattle.clock.specs.Reading.{span_of}
 use Rattle.clock.specs.Base.{time_at}
 use Rattle.frame.specs.declared.values.Frame.TheVariants.{Sync as sync, Fup as fup}
@@ -131,7 +131,7 @@ module _ (m : DomainSettings) (i : ℕ) (t : VirtualLocalTime) (g : GlobalTime) 
         y = sent_as t g d.settings.ids (sync_of t d b)
 
         base : time_at b t ≡ g
-        base = ap (λ (h : Held). time_in h t) (sym due.held) ∙ timed
+        base = ap (λ (h : Option TimeBase). time_in h t) (sym due.held) ∙ timed
 
         waited : has_waited m.period d.sending t ≡ true
         waited = subst (λ (x : DomainSettings). has_waited x.period d.sending t ≡ true) s.settings due.waited

@@ -1,13 +1,13 @@
 -- Demand 3, its second sentence. No contract cites this file.
 --   each_pair_taken   with the bus in order, each confirmed pair is taken
 -- Assumes nothing.
+use Rattle.std.specs.Prelude.{Ok, Some}
 use Prim.Native.Nat.{ℕ, ◌+◌, ◌-◌, ◌≤◌}
 use mathlib.Core.Path.{◌≡◌, refl, ap, ◌∙◌}
 use mathlib.Core.List.{List, [], ◌∷◌, ◌++◌}
 use native.Mathlib.Omega.{arith}
 use Rattle.clock.specs.declared.reading.VirtualLocalTime.{VirtualLocalTime}
 use Rattle.clock.specs.declared.time.GlobalTime.{GlobalTime}
-use Rattle.clock.specs.declared.base.Held.TheVariants.{Set}
 use Rattle.clock.specs.Reading.{span_of}
 use Rattle.clock.specs.Base.{base_of}
 use Rattle.frame.specs.declared.values.Fup.{Fup}
@@ -15,15 +15,10 @@ use Rattle.frame.specs.declared.values.Frame.TheVariants.{Fup as fup}
 use Rattle.settings.specs.declared.domain_settings.DomainSettings.{DomainSettings}
 use Rattle.domain.specs.declared.Domain.{Domain}
 use Rattle.domain.specs.declared.Pair.{Pair as OpenPair}
-use Rattle.domain.specs.declared.Pairing.TheVariants.{Open}
-use Rattle.slave_pair.specs.declared.joining.Joined.{Joined}
-use Rattle.slave_pair.specs.declared.joining.Joined.TheVariants.{With}
 use Rattle.slave_pair.specs.Pair.{pair_of}
 use Rattle.slave_pair.proofs.Laws.{Joins, joins}
-use Rattle.slave_answer.specs.Answer.{frame_number}
 use Rattle.slave_update.specs.Update.{new_base}
 use Rattle.slave_update.proofs.Laws.{update_taken}
-use Rattle.slave_answer.specs.declared.FrameStep.{FrameStep}
 use Rattle.slave_fup.specs.Fup.{fup_as, fup_of}
 use Rattle.master_follow.specs.Follow.{whole_of, ovs_of}
 use Rattle.node_call.specs.Calls.{numbered}
@@ -35,12 +30,15 @@ use Rattle.history.proofs.Since.{row_older, row_since, Fine, fine_before, Found,
 use Rattle.history.proofs.Follows.{handed, follows}
 use Rattle.history.proofs.Standing.{standing}
 use Rattle.history.proofs.SlaveView.{slave_settings_lem}
+use Rattle.domain.specs.declared.DomainStep.{DomainStep}
+use Rattle.refusal.specs.Numbers.{Outcome, outcome_number}
+use Rattle.slave_answer.specs.declared.Taken.{Taken as TakenFrame}
 
 -- ---- a FUP that is taken
 taken_as :
     (d : Domain) (p : OpenPair) (t : VirtualLocalTime) (f : Fup) →
-    Joins d.settings.follow_up_time d.pairing t f p → fup_of d t f ≡ fup_as (With p) d f
-taken_as d p t f j = ap (λ (j : Joined). fup_as j d f) (joins d.settings.follow_up_time d.pairing t f p j)
+    Joins d.settings.follow_up_time d.pairing t f p → fup_of d t f ≡ fup_as (Ok p) d f
+taken_as d p t f j = ap (λ (j : Outcome OpenPair). fup_as j d f) (joins d.settings.follow_up_time d.pairing t f p j)
 
 module _ (k : Link) (l : Linked k) (moment : ℕ) (h : History) where
   abbrev m : DomainSettings
@@ -54,7 +52,7 @@ module _ (k : Link) (l : Linked k) (moment : ℕ) (h : History) where
       (rest : List Sent) (f y : Copy) (older : List Copy) (here : Found k moment h f (y ∷ older)) →
       RowOf m i (sendings (y ∷ older) ++ rest) → (c : ℕ) → SyncSent m i c y.of →
       InRow k moment (slave_settings k).hysteresis y older →
-      (slave_record k here.before).pairing ≡ Open (pair_of y.at (sync_values m i c y.of.time.0))
+      (slave_record k here.before).pairing ≡ Some (pair_of y.at (sync_values m i c y.of.time.0))
   opened rest f y older here r c sent in_row =
       (follows k l moment rest
       here.before
@@ -64,7 +62,7 @@ module _ (k : Link) (l : Linked k) (moment : ℕ) (h : History) where
   -- its FUP is taken
   closed :
       (f y : Copy) (older : List Copy) (here : Found k moment h f (y ∷ older)) (p : Pair m i f.of y.of) →
-      (slave_record k here.before).pairing ≡ Open (pair_of y.at (sync_values m i p.counter y.of.time.0)) →
+      (slave_record k here.before).pairing ≡ Some (pair_of y.at (sync_values m i p.counter y.of.time.0)) →
       span_of y.at f.at ≤ (slave_settings k).follow_up_time → Taken k moment h f y older
   closed f y older here p is_open in_time =
       let d = slave_record k here.before in
@@ -92,14 +90,14 @@ module _ (k : Link) (l : Linked k) (moment : ℕ) (h : History) where
         next = here.next;
         number =
             step.1
-            ∙ ap (λ (s : FrameStep). numbered (frame_number s.answer)) taken
+            ∙ ap (λ (s : DomainStep (Outcome TakenFrame)). numbered (outcome_number s.answer)) taken
             ∙ ap numbered (omega (arith, none));
         base =
             ap (λ (d : Domain). d.base) step.0
-            ∙ ap (λ (s : FrameStep). s.domain.base) taken
-            ∙ ap (λ (t : GlobalTime). Set (base_of t y.at))
+            ∙ ap (λ (s : DomainStep (Outcome TakenFrame)). s.domain.base) taken
+            ∙ ap (λ (t : GlobalTime). Some (base_of t y.at))
             (whole_time y.of.time y.of.at f.of.at p.sync.seconds);
-        updates = ap (λ (d : Domain). d.updates) step.0 ∙ ap (λ (s : FrameStep). s.domain.updates) taken;
+        updates = ap (λ (d : Domain). d.updates) step.0 ∙ ap (λ (s : DomainStep (Outcome TakenFrame)). s.domain.updates) taken;
       }
 
 pub each_pair_taken : EachPairTaken

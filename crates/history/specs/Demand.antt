@@ -1,9 +1,8 @@
 -- Demand 3, word for word, as hypotheses over a history and statements; at the end they stand together. Its last
 -- sentence is that of paper 02, request 5. Assumes nothing.
-use Rattle.std.specs.Prelude.{ℕ, zero, suc, ◌+◌, ◌*◌, ◌≤◌, ◌<◌, ◌≡◌, true, cond, List, [], ◌∷◌, ◌++◌, map, leb}
+use Rattle.std.specs.Prelude.{ℕ, zero, suc, ◌+◌, ◌*◌, ◌≤◌, ◌<◌, ◌≡◌, true, cond, List, [], ◌∷◌, ◌++◌, map, leb, Ok, Some}
 use Rattle.clock.specs.declared.reading.VirtualLocalTime.{VirtualLocalTime}
 use Rattle.clock.specs.declared.base.TimeBase.{TimeBase}
-use Rattle.clock.specs.declared.base.Held.TheVariants.{Set}
 use Rattle.clock.specs.Reading.{is_reading, span_of}
 use Rattle.clock.specs.Time.{nanoseconds_of, advanced}
 use Rattle.clock.specs.Base.{base_of}
@@ -15,7 +14,6 @@ use Rattle.frame_check.specs.Check.{takes_plain}
 use Rattle.settings.specs.declared.domain_settings.Role.TheVariants.{Slave, Master}
 use Rattle.settings.specs.declared.domain_settings.Security.{Security}
 use Rattle.settings.specs.declared.domain_settings.Security.TheVariants.{Plain, Secured}
-use Rattle.settings.specs.declared.node_settings.Verdict.TheVariants.{Good}
 use Rattle.settings.specs.Node.{places, judged_of}
 use Rattle.domain.specs.Updates.{next_update}
 use Rattle.node_call.specs.Calls.{Call, frame, reading_of, numbered, answer_to}
@@ -50,8 +48,8 @@ pub record Linked (k : Link) : Type 0 where
   pub domain : k.domain < places
   pub masters : IsSettings k.master
   pub slaves : IsSettings k.slave
-  pub good_master : judged_of k.master ≡ Good
-  pub good_slave : judged_of k.slave ≡ Good
+  pub good_master : judged_of k.master ≡ Ok tt
+  pub good_slave : judged_of k.slave ≡ Ok tt
   pub master : (master_settings k).role ≡ Master
   pub slave : (slave_settings k).role ≡ Slave
 
@@ -158,7 +156,7 @@ pub record TimeOfOne (k : Link) (h : History) (b : TimeBase) : Type 0 where
 abbrev pub EachTimeHeld : Type 0
 EachTimeHeld =
     (k : Link) → Linked k → Exceed k → (h : History) → AreCalls h → NeverFall k h → Carried k h →
-    (b : TimeBase) → (slave_record k h).base ≡ Set b → TimeOfOne k h b
+    (b : TimeBase) → (slave_record k h).base ≡ Some b → TimeOfOne k h b
 
 -- ---- "one SYNC": what was handed in is a copy of no other frame
 abbrev pub EachSyncOne : Type 0
@@ -219,7 +217,7 @@ pub record Taken (k : Link) (moment : ℕ) (h : History) (fup sync : Copy) (olde
   pub number : answer_to (slave_after k before) (frame fup.at fup.of.bytes) ≡ numbered 0
   pub base :
       (slave_record k (at_slave (frame fup.at fup.of.bytes) ∷ before)).base
-      ≡ Set (base_of (advanced sync.of.time (span_of sync.of.at fup.of.at)) sync.at)
+      ≡ Some (base_of (advanced sync.of.time (span_of sync.of.at fup.of.at)) sync.at)
   pub updates :
       (slave_record k (at_slave (frame fup.at fup.of.bytes) ∷ before)).updates
       ≡ next_update (slave_record k before).updates

@@ -5,14 +5,10 @@
 --   slave                         frame: SYNC 0                     frame: FUP 0   read
 --   scale    0     0              60              100               200            300 ms
 -- Assumes nothing.
-use Rattle.std.specs.Prelude.{ℕ, ◌+◌, ◌≡◌, Bool, false, cond, ◌&&◌, ◌||◌, ◌⊎◌, List, [], ◌∷◌, ◌++◌, eqb, get_or}
+use Rattle.std.specs.Prelude.{ℕ, ◌+◌, ◌≡◌, Bool, false, cond, ◌&&◌, ◌||◌, ◌⊎◌, List, [], ◌∷◌, ◌++◌, eqb, get_or, Err, None, Ok, Option, Result, Some}
 use Rattle.clock.specs.declared.reading.VirtualLocalTime.{VirtualLocalTime}
 use Rattle.clock.specs.declared.time.GlobalTime.{GlobalTime}
-use Rattle.clock.specs.declared.base.Held.{Held}
-use Rattle.clock.specs.declared.base.Held.TheVariants.{Unset, Set}
 use Rattle.clock.specs.Base.{time_at}
-use Rattle.frame_read.specs.declared.Read.{Read}
-use Rattle.frame_read.specs.declared.Read.TheVariants.{LengthNot8, NoSuchType, Values}
 use Rattle.frame_read.specs.Read.{read_of}
 use Rattle.frame_check.specs.Check.{is_taken}
 use Rattle.settings.specs.declared.domain_settings.DomainSettings.{DomainSettings}
@@ -37,6 +33,10 @@ use Rattle.node_call.specs.Calls.{
   answer_to,
   given_by,
 }
+use Rattle.clock.specs.declared.base.TimeBase.{TimeBase}
+use Rattle.frame.specs.declared.values.Frame.{Frame}
+use Rattle.frame_read.specs.declared.NoFrame.{NoFrame}
+use Rattle.frame_read.specs.declared.NoFrame.TheVariants.{LengthNot8, NoSuchType}
 
 -- ---- what stands in a list
 abbrev pub In : {A : Type 0} → A → List A → Type 0
@@ -97,9 +97,9 @@ pub record Sent : Type 0 where
   pub at : VirtualLocalTime
   pub time : GlobalTime
 
-abbrev pub time_in : Held → VirtualLocalTime → GlobalTime
-time_in Unset t = record { 0 = 0; 1 = 0 }
-time_in (Set b) t = time_at b t
+abbrev pub time_in : Option TimeBase → VirtualLocalTime → GlobalTime
+time_in None t = record { 0 = 0; 1 = 0 }
+time_in (Some b) t = time_at b t
 
 -- those of the frames that are of the domain, one after another
 abbrev pub noted : (domain : ℕ) → VirtualLocalTime → GlobalTime → List (List ℕ) → List Sent → List Sent
@@ -128,10 +128,10 @@ counter_in s = counter_of (get_or s.bytes 2 0)
 
 -- ---- Heard: what a frame call hands in that passes tests 2 to 5 in the domain. "A copy arrives at the reading of
 -- the frame call that hands it in."
-abbrev pub is_read : Read → (domain : ℕ) → Bool
-is_read LengthNot8 domain = false
-is_read NoSuchType domain = false
-is_read (Values values) domain = eqb (domain_in values) domain
+abbrev pub is_read : Result Frame NoFrame → (domain : ℕ) → Bool
+is_read (Err LengthNot8) domain = false
+is_read (Err NoSuchType) domain = false
+is_read (Ok values) domain = eqb (domain_in values) domain
 
 abbrev pub is_heard : Link → List ℕ → Bool
 is_heard k bytes =

@@ -23,6 +23,7 @@
 --   no_modulo_false                the second is answered 0
 --   any_lists_read_false           under mode optional, other DataIDs: the first SYNC is refused
 -- Assumes nothing.
+use Rattle.std.specs.Prelude.{Some}
 use Prim.Native.Nat.{ℕ}
 use mathlib.Core.Path.{◌≡◌, refl, sym, ap, ap₂, subst, ◌∙◌}
 use mathlib.Core.Bool.{Bool, true, false, not, ◌&&◌, true≢false, false≢true}
@@ -36,7 +37,6 @@ use Rattle.promise.proofs.Tests.{both}
 use Rattle.clock.specs.declared.reading.VirtualLocalTime.{VirtualLocalTime}
 use Rattle.clock.specs.declared.time.GlobalTime.{GlobalTime}
 use Rattle.clock.specs.declared.base.TimeBase.{TimeBase}
-use Rattle.clock.specs.declared.base.Held.TheVariants.{Set}
 use Rattle.clock.specs.Base.{base_of}
 use Rattle.crc8.specs.Crc8.{step_of, eight_steps_of, crc_of, check_of}
 use Rattle.round.specs.Round.{goes}
@@ -446,7 +446,7 @@ round_met =
     }
 
 -- what holds just before the last call
-round_earlier_lem : (slave_record loss_link round_before).base ≡ Set round_earlier
+round_earlier_lem : (slave_record loss_link round_before).base ≡ Some round_earlier
 unfolding goes
 round_earlier_lem = refl
 

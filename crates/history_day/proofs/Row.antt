@@ -14,11 +14,11 @@
 --   any_distance      so the sentence without "at most L apart" is false
 --   not_spaced        and so are the request's words
 -- Assumes nothing.
+use Rattle.std.specs.Prelude.{Some}
 use mathlib.Core.Path.{◌≡◌, refl, sym, ap, ◌∙◌}
 use mathlib.Core.Bool.{true}
 use mathlib.Core.List.{[], ◌∷◌}
 use native.Mathlib.Omega.{arith}
-use Rattle.clock.specs.declared.base.Held.TheVariants.{Set}
 use Rattle.round.specs.Round.{goes}
 use Rattle.history.specs.History.{slave_record}
 use Rattle.history.specs.Demand.{Linked, Orderly, InRow, Taken, Spaced}
@@ -87,7 +87,7 @@ pub row_numbers : numbers_in two_link two_day ≡ two_numbers
 unfolding goes
 row_numbers = refl
 
-pub row_holds : (slave_record two_link two_day).base ≡ Set two_base
+pub row_holds : (slave_record two_link two_day).base ≡ Some two_base
 unfolding goes
 row_holds = refl
 

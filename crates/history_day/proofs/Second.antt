@@ -13,6 +13,7 @@
 --   late_not_taken  and its pair is not taken
 --   late_exceeded   so the last sentence is false for FUPs that are up to 1 ns later
 -- Assumes nothing.
+use Rattle.std.specs.Prelude.{None, Option, Some}
 use Prim.Native.Nat.{◌+◌}
 use mathlib.Core.Path.{◌≡◌, refl, sym, ap, ◌∙◌}
 use mathlib.Core.Bool.{Bool, true, not, false≢true}
@@ -20,8 +21,6 @@ use mathlib.Core.List.{[]}
 use native.Mathlib.Omega.{arith}
 use lib.Dec.{eqb}
 use Rattle.clock.specs.declared.reading.VirtualLocalTime.{VirtualLocalTime}
-use Rattle.clock.specs.declared.base.Held.{Held}
-use Rattle.clock.specs.declared.base.Held.TheVariants.{Unset, Set}
 use Rattle.clock.specs.Reading.{span_of}
 use Rattle.round.specs.Round.{goes}
 use Rattle.history.specs.History.{slave_settings, slave_record, sent_in}
@@ -58,6 +57,7 @@ use Rattle.history_day.proofs.Tests.{
   every_base,
   every_base_lem,
 }
+use Rattle.clock.specs.declared.base.TimeBase.{TimeBase}
 
 linked : Linked second_link
 linked = linked_by _ (omega arith) refl refl refl refl refl refl
@@ -141,9 +141,9 @@ pub late_by_one :
     span_of (copy_sync 18).at late_fup.at ≡ (slave_settings second_link).follow_up_time + 1
 late_by_one = refl
 
-abbrev is_not_at : VirtualLocalTime → Held → Bool
-is_not_at t Unset = true
-is_not_at t (Set b) = not (eqb b.at.0 t.0)
+abbrev is_not_at : VirtualLocalTime → Option TimeBase → Bool
+is_not_at t None = true
+is_not_at t (Some b) = not (eqb b.at.0 t.0)
 
 late_never : every_base (is_not_at (copy_sync 18).at) second_link second ≡ true
 unfolding goes

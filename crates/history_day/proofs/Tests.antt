@@ -13,6 +13,7 @@
 --   not_of_one  a base is of no SYNC where no FUP gives its time with the SYNC before it, or no copy of that SYNC can
 --               have come at its reading
 -- Assumes nothing.
+use Rattle.std.specs.Prelude.{None, Ok, Option, Some}
 use Prim.Native.Nat.{ℕ, zero, suc, ◌+◌, ◌≤◌, ◌<◌}
 use mathlib.Core.Path.{◌≡◌, refl, sym, ap, subst, ◌∙◌}
 use mathlib.Core.Logic.{inl, inr, ⊎_elim}
@@ -25,15 +26,12 @@ use Rattle.settings.specs.Node.{places}
 use Rattle.promise.proofs.Tests.{both}
 use Rattle.clock.specs.declared.reading.VirtualLocalTime.{VirtualLocalTime}
 use Rattle.clock.specs.declared.base.TimeBase.{TimeBase}
-use Rattle.clock.specs.declared.base.Held.{Held}
-use Rattle.clock.specs.declared.base.Held.TheVariants.{Unset, Set}
 use Rattle.clock.specs.declared.time.GlobalTime.{GlobalTime}
 use Rattle.clock.specs.Reading.{is_reading, span_of}
 use Rattle.clock.specs.Time.{advanced}
 use Rattle.node_call.specs.Calls.{reading_of}
 use Rattle.node_laws.proofs.Witness.{is_call, is_call_lem}
 use Rattle.settings.specs.declared.domain_settings.Role.TheVariants.{Slave, Master}
-use Rattle.settings.specs.declared.node_settings.Verdict.TheVariants.{Good}
 use Rattle.settings.specs.Node.{judged_of}
 use Rattle.node_laws.specs.Reachable.{IsSettings}
 use Rattle.history.specs.History.{
@@ -160,8 +158,8 @@ all_fit k [] = true
 all_fit k (x ∷ h) = all_fit k h && fits k x h
 
 pub linked_by :
-    (k : Link) → k.domain < places → IsSettings k.master → IsSettings k.slave → judged_of k.master ≡ Good →
-    judged_of k.slave ≡ Good → (master_settings k).role ≡ Master → (slave_settings k).role ≡ Slave → Linked k
+    (k : Link) → k.domain < places → IsSettings k.master → IsSettings k.slave → judged_of k.master ≡ Ok tt →
+    judged_of k.slave ≡ Ok tt → (master_settings k).role ≡ Master → (slave_settings k).role ≡ Slave → Linked k
 linked_by k domain masters slaves good_master good_slave master slave =
     record {
       domain = domain;
@@ -308,26 +306,26 @@ all_same_lem (s ∷ l) (s' ∷ m) e =
     cc
 
 -- ---- what each base passes, and a base that was never set
-abbrev pub every_base : (Held → Bool) → Link → History → Bool
+abbrev pub every_base : (Option TimeBase → Bool) → Link → History → Bool
 every_base test k [] = test (slave_record k []).base
 every_base test k (x ∷ h) = test (slave_record k (x ∷ h)).base && every_base test k h
 
 pub every_base_lem :
-    (test : Held → Bool) (k : Link) (after : History) (x : Event) (before : History) →
+    (test : Option TimeBase → Bool) (k : Link) (after : History) (x : Event) (before : History) →
     every_base test k (after ++ (x ∷ before)) ≡ true → test (slave_record k (x ∷ before)).base ≡ true
 every_base_lem test k [] x before e = (both (test (slave_record k (x ∷ before)).base) (every_base test k before) e).0
 every_base_lem test k (y ∷ after) x before e =
     let rest = after ++ (x ∷ before) in
     every_base_lem test k after x before (both (test (slave_record k (y ∷ rest)).base) (every_base test k rest) e).1
 
-abbrev is_unset : Held → Bool
-is_unset Unset = true
-is_unset (Set b) = false
+abbrev is_unset : Option TimeBase → Bool
+is_unset None = true
+is_unset (Some b) = false
 
 abbrev pub never_set : Link → History → Bool
 never_set = every_base is_unset
 
 pub never_set_lem :
     (k : Link) (after : History) (x : Event) (before : History) (b : TimeBase) →
-    never_set k (after ++ (x ∷ before)) ≡ true → (slave_record k (x ∷ before)).base ≡ Set b → ⊥
+    never_set k (after ++ (x ∷ before)) ≡ true → (slave_record k (x ∷ before)).base ≡ Some b → ⊥
 never_set_lem k after x before b e p = false≢true (ap is_unset (sym p) ∙ every_base_lem is_unset k after x before e)

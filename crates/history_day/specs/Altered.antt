@@ -1,11 +1,10 @@
 -- Demand 3 of paper 01 as the must-fail edits of `history` alter it: each statement once, with a place for what an edit
 -- alters, and then as each edit has it; and the histories that refute them where none of `Day` and `Edges` does. What a
 -- statement asks is gathered in `Fair`, and in `Exceed` where the demand says so. Assumes nothing.
-use Rattle.std.specs.Prelude.{ℕ, zero, suc, ◌+◌, ◌*◌, ◌%◌, ◌≤◌, ◌≡◌, true, cond, ◌⊎◌, List, [], ◌∷◌, ◌++◌, eqb, get_or, replicate, set as put}
+use Rattle.std.specs.Prelude.{ℕ, zero, suc, ◌+◌, ◌*◌, ◌%◌, ◌≤◌, ◌≡◌, true, cond, ◌⊎◌, List, [], ◌∷◌, ◌++◌, eqb, get_or, replicate, set as put, Some}
 use Rattle.clock.specs.declared.reading.VirtualLocalTime.{VirtualLocalTime}
 use Rattle.clock.specs.declared.time.GlobalTime.{GlobalTime}
 use Rattle.clock.specs.declared.base.TimeBase.{TimeBase}
-use Rattle.clock.specs.declared.base.Held.TheVariants.{Set}
 use Rattle.clock.specs.Reading.{span_of}
 use Rattle.clock.specs.Time.{nanoseconds_of, advanced}
 use Rattle.clock.specs.Base.{base_of}
@@ -104,7 +103,7 @@ pub record TimeOf (t : Tie) (k : Link) (h : History) (b : TimeBase) : Type 0 whe
 abbrev pub HeldBy : Tie → Type 0
 HeldBy t =
     (k : Link) → Exceed k → (h : History) → Fair k h →
-    (b : TimeBase) → (slave_record k h).base ≡ Set b → TimeOf t k h b
+    (b : TimeBase) → (slave_record k h).base ≡ Some b → TimeOf t k h b
 
 abbrev pub BaseAtTheSync : Type 0
 BaseAtTheSync = HeldBy (timed (λ sync fup. record { 0 = sync.time.0; 1 = 0 }))
@@ -133,7 +132,7 @@ twice_e k =
 abbrev pub HeldOver : (Link → Link) → Type 0
 HeldOver over =
     (k : Link) → Exceed k → (h : History) → Fair (over k) h →
-    (b : TimeBase) → (slave_record (over k) h).base ≡ Set b → TimeOfOne (over k) h b
+    (b : TimeBase) → (slave_record (over k) h).base ≡ Some b → TimeOfOne (over k) h b
 
 abbrev pub CopyUpToTwiceE : Type 0
 CopyUpToTwiceE = HeldOver twice_e
@@ -206,7 +205,7 @@ pub record TakenBy
   pub number : answer_to (slave_after k before) (frame fup.at fup.of.bytes) ≡ numbered (answered k sync)
   pub base :
       (slave_record k (up_to (at_slave (frame fup.at fup.of.bytes)) before)).base
-      ≡ Set (base_of (carried_on sync.of fup.of) sync.at)
+      ≡ Some (base_of (carried_on sync.of fup.of) sync.at)
   pub updates :
       (slave_record k (at_slave (frame fup.at fup.of.bytes) ∷ before)).updates
       ≡ next_update (slave_record k before).updates

@@ -1,9 +1,8 @@
 -- What demand 3 asks of a link and a history, gathered; its first sentence with another condition in place of
 -- "exceed", and its last with another row, or for later FUPs. Assumes nothing.
-use Rattle.std.specs.Prelude.{ℕ, zero, suc, ◌+◌, ◌-◌, ◌*◌, ◌≤◌, ◌<◌, ◌≡◌, true, cond, List, [], ◌∷◌, ◌++◌}
+use Rattle.std.specs.Prelude.{ℕ, zero, suc, ◌+◌, ◌-◌, ◌*◌, ◌≤◌, ◌<◌, ◌≡◌, true, cond, List, [], ◌∷◌, ◌++◌, Some}
 use Rattle.clock.specs.declared.base.TimeBase.{TimeBase}
 use Rattle.frame.specs.ByteTwo.{counters}
-use Rattle.clock.specs.declared.base.Held.TheVariants.{Set}
 use Rattle.clock.specs.Reading.{span_of}
 use Rattle.clock.specs.Time.{nanoseconds_of}
 use Rattle.node_call.specs.Calls.{number_in, answer_to}
@@ -28,7 +27,7 @@ use Rattle.history.specs.Demand.{Exceed, TimeOfOne, Copy, Orderly, InRow, Taken,
 pub record HeldMet (k : Link) (h : History) (b : TimeBase) : Type 0 where
   pub fair : Fair k h
   pub exceed : Exceed k
-  pub holds : (slave_record k h).base ≡ Set b
+  pub holds : (slave_record k h).base ≡ Some b
 
 -- ---- what the last sentence asks of a pair but for the row of its SYNC
 pub record PairMet
@@ -89,7 +88,7 @@ TakenUntil later =
 abbrev pub HeldUnder : (Link → Type 0) → Type 0
 HeldUnder Condition =
     (k : Link) → Condition k → (h : History) → Fair k h →
-    (b : TimeBase) → (slave_record k h).base ≡ Set b → TimeOfOne k h b
+    (b : TimeBase) → (slave_record k h).base ≡ Some b → TimeOfOne k h b
 
 -- ---- 16 sending periods reach E plus the one time, and "exceed" E plus the other
 pub record ReachFollowUp (k : Link) : Type 0 where
@@ -108,7 +107,7 @@ pub record Within (Condition : Link → Type 0) (k : Link) : Type 0 where
 -- ---- a time that the slave holds and that is of no SYNC
 pub record WrongHeld (k : Link) (h : History) (b : TimeBase) : Type 0 where
   pub fair : Fair k h
-  pub holds : (slave_record k h).base ≡ Set b
+  pub holds : (slave_record k h).base ≡ Some b
   pub wrong : TimeOfOne k h b → ⊥
 
 -- ---- a time that the slave holds, with all of the first sentence met, and that is E behind, or C ahead

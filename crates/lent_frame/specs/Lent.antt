@@ -3,12 +3,14 @@
 use Rattle.std.specs.Prelude.{ℕ, ◌≡◌, List}
 use Rattle.clock.specs.declared.reading.VirtualLocalTime.{VirtualLocalTime}
 use Rattle.domain.specs.declared.Domain.{Domain}
-use Rattle.call_frame.specs.declared.FrameCall.{FrameCall}
 use Rattle.call_frame.specs.FrameCall.{frame_call_of}
 use Rattle.lent_frame.specs.declared.LentFrame.{LentFrame}
+use Rattle.domain.specs.declared.DomainCall.{DomainCall}
+use Rattle.refusal.specs.Numbers.{Outcome}
+use Rattle.slave_answer.specs.declared.Taken.{Taken}
 
 -- ---- what is answered: all but the record, which stays with the product
-abbrev pub lent_frame : FrameCall → LentFrame
+abbrev pub lent_frame : DomainCall (Outcome Taken) → LentFrame
 lent_frame r = record { answer = r.answer; kept = r.kept }
 
 -- ---- The promise: the answer, the kept reading, and the lent record.

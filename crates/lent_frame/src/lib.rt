@@ -7,14 +7,15 @@ ghost use Rattle.std.specs.Prelude.{◌≡◌};
 ghost use Rattle.call_frame.specs.FrameCall.{frame_call_of};
 ghost use Rattle.lent_frame.specs.Lent.{TakenOn};
 
-use call_frame::{FrameCall, frame_call};
+use call_frame::frame_call;
 use clock::VirtualLocalTime;
-use domain::Domain;
-use slave_answer::FrameAnswer;
+use domain::{Domain, DomainCall};
+use refusal::Outcome;
+use slave_answer::Taken;
 
 #[derive(Drop)]
 pub struct LentFrame {
-    pub answer: FrameAnswer,
+    pub answer: Outcome<Taken>,
     // What is kept from now on, for all records.
     pub kept: VirtualLocalTime,
 }
@@ -42,12 +43,12 @@ pub fn frame_lent(
     kept: VirtualLocalTime,
     t: VirtualLocalTime,
     bytes: &[u8],
-) -> FrameCall
+) -> DomainCall<Outcome<Taken>>
     ensures { result ≡ frame_call_of domain kept t bytes.now }
 {
     let mut record = domain;
     let lent = frame_on(&mut record, kept, t, bytes);
-    FrameCall {
+    DomainCall {
         answer: lent.answer,
         domain: record,
         kept: lent.kept,

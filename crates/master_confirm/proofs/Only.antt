@@ -8,14 +8,12 @@ use Rattle.promise.specs.Only.{OnlyOne}
 use Rattle.promise.proofs.Laws.{equation_only}
 use Rattle.clock.specs.declared.reading.VirtualLocalTime.{VirtualLocalTime}
 use Rattle.domain.specs.declared.Domain.{Domain}
-use Rattle.master_confirm.specs.declared.ConfirmStep.{ConfirmStep}
-use Rattle.master_confirm.specs.Confirm.{confirm_number, confirm_of}
-use Rattle.master_confirm.specs.declared.ConfirmAnswer.{ConfirmAnswer}
+use Rattle.master_confirm.specs.Confirm.{confirm_of}
+use Rattle.domain.specs.declared.DomainStep.{DomainStep}
+use Rattle.frame.specs.declared.values.Fup.{Fup}
+use Rattle.refusal.specs.Numbers.{Outcome, outcome_number}
 
 pub confirm_only :
     (d : Domain) (t : VirtualLocalTime) (counter : ℕ) (room : Bool) →
-    OnlyOne (λ (r : ConfirmStep). r ≡ confirm_of d t counter room)
+    OnlyOne (λ (r : DomainStep (Outcome Fup)). r ≡ confirm_of d t counter room)
 confirm_only d t counter room = equation_only _
-
-pub number_only : (answer : ConfirmAnswer) → OnlyOne (λ (r : ℕ). r ≡ confirm_number answer)
-number_only answer = equation_only _

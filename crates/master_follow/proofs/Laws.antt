@@ -4,6 +4,7 @@
 --   over_exact     what comes over of numbers of 32 bits is OVS and the nanoseconds of the whole time
 --   by_follow      what a confirmation finds: 11, 12 or a FUP; `OpenFor` is told of the SYNC where it is open
 -- Assumes nothing.
+use Rattle.std.specs.Prelude.{Err, Ok}
 use Prim.Native.Nat.{ℕ, ◌+◌, ◌^◌, ◌≤◌, ◌<◌}
 use mathlib.Core.Path.{◌≡◌, ap, ap₂}
 use mathlib.Core.Bool.{Bool, true}
@@ -20,10 +21,10 @@ use Rattle.refusal.specs.declared.Refusal.TheVariants.{NoOpenSync, NoRoom}
 use Rattle.domain.specs.declared.Sending.{Sending}
 use Rattle.domain.specs.declared.Sending.TheVariants.{Never, Open, Confirmed}
 use Rattle.clock.specs.declared.over.Over.{Over}
-use Rattle.master_follow.specs.declared.Follow.{Follow}
-use Rattle.master_follow.specs.declared.Follow.TheVariants.{With, Refused as refused}
 use Rattle.clock.specs.Over.{over_of}
 use Rattle.master_follow.specs.Follow.{is_open_for, whole_of, ovs_of, follow_of}
+use Rattle.refusal.specs.Numbers.{Outcome}
+use Rattle.master_follow.specs.declared.Follow.{Follow}
 
 module _ (g : GlobalTime) (at t : VirtualLocalTime) (good : IsSet g) (fresh : span_of at t ≤ 3000000000) where
   pub whole_exact : nanoseconds_of (whole_of g at t) ≡ nanoseconds_of g + span_of at t
@@ -50,10 +51,10 @@ pub record OpenFor
   pub soon : span_of at t ≤ c
 
 pub by_follow :
-    (P : Follow → Type 0) (c : ℕ) (s : Sending) (t : VirtualLocalTime) (counter : ℕ) (room : Bool) →
-    P (refused NoOpenSync) → P (refused NoRoom) →
+    (P : Outcome Follow → Type 0) (c : ℕ) (s : Sending) (t : VirtualLocalTime) (counter : ℕ) (room : Bool) →
+    P (Err NoOpenSync) → P (Err NoRoom) →
     ((g : GlobalTime) (at : VirtualLocalTime) → OpenFor c s t counter g at → room ≡ true →
-    P (With (ovs_of g at t) (whole_of g at t).1 at)) →
+    P (Ok (record { ovs = ovs_of g at t; nanoseconds = (whole_of g at t).1; sent_at = at }))) →
     P (follow_of c s t counter room)
 by_follow P c Never t counter room no_sync no_room with = no_sync
 by_follow P c (Open sent seconds nanoseconds at) t counter room no_sync no_room with =

@@ -6,10 +6,11 @@ use Rattle.promise.specs.Only.{OnlyOne}
 use Rattle.promise.proofs.Laws.{equation_only}
 use Rattle.clock.specs.declared.reading.VirtualLocalTime.{VirtualLocalTime}
 use Rattle.domain.specs.declared.Sending.{Sending}
-use Rattle.master_follow.specs.declared.Follow.{Follow}
 use Rattle.master_follow.specs.Follow.{follow_of}
+use Rattle.refusal.specs.Numbers.{Outcome}
+use Rattle.master_follow.specs.declared.Follow.{Follow}
 
 pub follow_up_only :
     (c : ℕ) (s : Sending) (t : VirtualLocalTime) (counter : ℕ) (room : Bool) →
-    OnlyOne (λ (r : Follow). r ≡ follow_of c s t counter room)
+    OnlyOne (λ (r : Outcome Follow). r ≡ follow_of c s t counter room)
 follow_up_only c s t counter room = equation_only _

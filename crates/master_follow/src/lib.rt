@@ -6,19 +6,15 @@ ghost use Rattle.master_follow.specs.Follow.{follow_of};
 
 use clock::{VirtualLocalTime, carried_over};
 use domain::Sending;
-use refusal::Refusal;
+use refusal::{Outcome, Refusal};
 
-// What a confirmation finds: the time of its FUP and when its SYNC was sent, or the number by which it
-// is refused. OVS is at most 3 on every node that calls give (`ovs_most`); on another record it may be
-// up to 8, and is written modulo 4.
-#[derive(Drop)]
-pub enum Follow {
-    With {
-        ovs: u8,
-        nanoseconds: u32,
-        sent_at: VirtualLocalTime,
-    },
-    Refused(Refusal),
+// The time of a FUP, and when its SYNC was sent. OVS is at most 3 on every node that calls give (`ovs_most`); on another
+// record it may be up to 8, and is written modulo 4.
+#[derive(Clone, Copy)]
+pub struct Follow {
+    pub ovs: u8,
+    pub nanoseconds: u32,
+    pub sent_at: VirtualLocalTime,
 }
 
 // 11, 12, or the time of the FUP, which comes from the open SYNC alone, never from the base. `room` says
@@ -29,35 +25,33 @@ pub fn follow_up(
     t: VirtualLocalTime,
     counter: u8,
     room: bool,
-) -> Follow
+) -> Outcome<Follow>
     ensures { result ≡ follow_of confirmation_time sending t counter room }
 {
-    match sending {
-        Sending::Never => Follow::Refused(Refusal::NoOpenSync),
-        Sending::Open {
-            counter: sent,
-            seconds: _,
-            nanoseconds,
-            at,
-        } => {
-            if sent != counter {
-                return Follow::Refused(Refusal::NoOpenSync);
-            }
-            // the age is tested whole: one that is at most C fits 32 bits
-            let span = t.since(at);
-            if (confirmation_time as u64) < span {
-                return Follow::Refused(Refusal::NoOpenSync);
-            }
-            if !room {
-                return Follow::Refused(Refusal::NoRoom);
-            }
-            let over = carried_over(nanoseconds, span as u32);
-            Follow::With {
-                ovs: over.seconds,
-                nanoseconds: over.nanoseconds,
-                sent_at: at,
-            }
-        }
-        Sending::Confirmed(_) => Follow::Refused(Refusal::NoOpenSync),
+    let Sending::Open {
+        counter: sent,
+        seconds: _,
+        nanoseconds,
+        at,
+    } = sending
+    else {
+        return Err(Refusal::NoOpenSync);
+    };
+    if sent != counter {
+        return Err(Refusal::NoOpenSync);
     }
+    // the age is tested whole: one that is at most C fits 32 bits
+    let span = t.since(at);
+    if (confirmation_time as u64) < span {
+        return Err(Refusal::NoOpenSync);
+    }
+    if !room {
+        return Err(Refusal::NoRoom);
+    }
+    let over = carried_over(nanoseconds, span as u32);
+    Ok(Follow {
+        ovs: over.seconds,
+        nanoseconds: over.nanoseconds,
+        sent_at: at,
+    })
 }

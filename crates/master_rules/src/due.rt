@@ -2,47 +2,41 @@
 ghost use Rattle.std.specs.Prelude.{◌≡◌};
 ghost use Rattle.master_rules.specs.Due.{is_master, has_waited, due_of};
 
-use clock::{GlobalTime, Held, VirtualLocalTime};
+use clock::{GlobalTime, TimeBase, VirtualLocalTime};
 use domain::Sending;
 use settings::Role;
 
-// Whether a domain is due, with the time that its SYNC then has.
-#[derive(Drop)]
-pub enum Due {
-    At { seconds: u32, nanoseconds: u32 },
-    No,
+// The time that the SYNC of a domain has that is due.
+#[derive(Clone, Copy)]
+pub struct Due {
+    pub seconds: u32,
+    pub nanoseconds: u32,
 }
 
-pub fn due_at(role: Role, period: u64, base: Held, sending: Sending, t: VirtualLocalTime) -> Due
+// Whether a domain is due, with the time that its SYNC then has.
+pub fn due_at(
+    role: Role,
+    period: u64,
+    base: Option<TimeBase>,
+    sending: Sending,
+    t: VirtualLocalTime,
+) -> Option<Due>
     ensures { result ≡ due_of role period base sending t }
 {
-    let Held::Set(set) = base else {
-        return Due::No;
-    };
-    let time = set.time_at(t);
-    if GlobalTime::SET_SECONDS_MAX < time.0 {
-        return Due::No;
+    let time = base?.time_at(t);
+    if GlobalTime::SET_SECONDS_MAX < time.0 || !is_master(role) || !has_waited(period, sending, t) {
+        return None;
     }
-    if !is_master(role) {
-        return Due::No;
-    }
-    if !has_waited(period, sending, t) {
-        return Due::No;
-    }
-    Due::At {
+    Some(Due {
         seconds: time.0 as u32,
         nanoseconds: time.1,
-    }
+    })
 }
 
 fn is_master(role: Role) -> bool
     ensures { result ≡ is_master role }
 {
-    match role {
-        Role::Absent => false,
-        Role::Slave => false,
-        Role::Master => true,
-    }
+    matches!(role, Role::Master)
 }
 
 fn has_waited(period: u64, sending: Sending, t: VirtualLocalTime) -> bool
@@ -50,12 +44,6 @@ fn has_waited(period: u64, sending: Sending, t: VirtualLocalTime) -> bool
 {
     match sending {
         Sending::Never => true,
-        Sending::Open {
-            counter: _,
-            seconds: _,
-            nanoseconds: _,
-            at,
-        } => period <= t.since(at),
-        Sending::Confirmed(at) => period <= t.since(at),
+        Sending::Open { at, .. } | Sending::Confirmed(at) => period <= t.since(at),
     }
 }

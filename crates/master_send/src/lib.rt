@@ -5,93 +5,63 @@
 #![tactic(auto)]
 
 ghost use Rattle.std.specs.Prelude.{◌≡◌};
-ghost use Rattle.master_send.specs.Send.{is_due, send_of};
+ghost use Rattle.master_send.specs.Send.{due_in, is_due, send_of};
 
 use clock::VirtualLocalTime;
-use domain::{Domain, Sending};
+use domain::{Domain, DomainStep, Sending};
 use frame::{COUNTERS, Sync};
 use master_rules::{Due, due_at, protection};
-
-// What a domain's turn in a main cycle gives.
-#[derive(Clone, Copy)]
-pub enum SendAnswer {
-    Sent(Sync),
-    NotDue,
-}
-
-#[derive(Drop)]
-pub struct SendStep {
-    pub answer: SendAnswer,
-    pub domain: Domain,
-}
 
 // Whether the domain is due at t.
 pub fn is_due(domain: Domain, t: VirtualLocalTime) -> bool
     ensures { result ≡ is_due domain t }
 {
-    let settings = domain.settings;
-    let role = settings.role;
-    let base = domain.base;
-    let sending = domain.sending;
-    match due_at(role, settings.period, base, sending, t) {
-        Due::At {
-            seconds: _,
-            nanoseconds: _,
-        } => true,
-        Due::No => false,
-    }
+    due_in(domain, t).is_some()
 }
 
-// Sends a SYNC if the domain is due at t. The record then holds it as open.
-pub fn send(domain: Domain, t: VirtualLocalTime) -> SendStep
-    ensures { result ≡ send_of domain t }
+fn due_in(domain: Domain, t: VirtualLocalTime) -> Option<Due>
+    ensures { result ≡ due_in domain t }
 {
     let settings = domain.settings;
-    let role = settings.role;
-    let base = domain.base;
-    let sending = domain.sending;
-    let Due::At {
-        seconds,
-        nanoseconds,
-    } = due_at(role, settings.period, base, sending, t)
-    else {
-        return SendStep {
-            answer: SendAnswer::NotDue,
+    due_at(
+        settings.role,
+        settings.period,
+        domain.base,
+        domain.sending,
+        t,
+    )
+}
+
+// A SYNC if the domain is due at t. The record then holds it as open.
+pub fn send(domain: Domain, t: VirtualLocalTime) -> DomainStep<Option<Sync>>
+    ensures { result ≡ send_of domain t }
+{
+    let Some(due) = due_in(domain, t) else {
+        return DomainStep {
+            answer: None,
             domain,
         };
     };
-    let pairing = domain.pairing;
-    let last = domain.last;
-    let user = domain.user;
-    let leap = domain.leap;
     let counter = domain.next_counter % COUNTERS;
-    let security = settings.security;
+    let settings = domain.settings;
     let sent = settings.user;
-    SendStep {
-        answer: SendAnswer::Sent(Sync {
+    DomainStep {
+        answer: Some(Sync {
             domain: domain.number,
             counter,
             user0: sent.0,
-            seconds,
-            protection: protection(security, sent.1),
+            seconds: due.seconds,
+            protection: protection(settings.security, sent.1),
         }),
         domain: Domain {
-            settings,
-            base,
-            pairing,
-            last,
             sending: Sending::Open {
                 counter,
-                seconds,
-                nanoseconds,
+                seconds: due.seconds,
+                nanoseconds: due.nanoseconds,
                 at: t,
             },
-            number: domain.number,
-            user,
-            sgw: domain.sgw,
-            leap,
-            updates: domain.updates,
             next_counter: (counter + 1) % COUNTERS,
+            ..domain
         },
     }
 }

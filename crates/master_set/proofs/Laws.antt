@@ -2,6 +2,7 @@
 --   refusal_keeps_set   a refused set leaves the record as it was
 --   set_keeps_sending   a set touches no SYNC, neither an open one nor when the last was sent
 -- Assumes nothing.
+use Rattle.std.specs.Prelude.{Err, ⊤}
 use Prim.Native.Nat.{ℕ}
 use mathlib.Core.Path.{◌≡◌, refl}
 use lib.Dec.{leb}
@@ -9,17 +10,17 @@ use Rattle.promise.proofs.Tests.{either}
 use Rattle.clock.specs.declared.reading.VirtualLocalTime.{VirtualLocalTime}
 use Rattle.refusal.specs.declared.Refusal.{Refusal}
 use Rattle.domain.specs.declared.Domain.{Domain}
-use Rattle.master_set.specs.declared.SetAnswer.TheVariants.{Refused as set_refused}
-use Rattle.master_set.specs.declared.SetStep.{SetStep}
 use Rattle.master_set.specs.Set.{set_of}
+use Rattle.domain.specs.declared.DomainStep.{DomainStep}
+use Rattle.refusal.specs.Numbers.{Outcome}
 
 -- ---- a refusal keeps the record
 
 pub refusal_keeps_set :
     (d : Domain) (t : VirtualLocalTime) (s n : ℕ) (refusal : Refusal) →
-    (set_of d t s n).answer ≡ set_refused refusal → (set_of d t s n).domain ≡ d
+    (set_of d t s n).answer ≡ Err refusal → (set_of d t s n).domain ≡ d
 refusal_keeps_set d t s n =
-    either (λ (r : SetStep). (refusal : Refusal) → r.answer ≡ set_refused refusal → r.domain ≡ d)
+    either (λ (r : DomainStep (Outcome ⊤)). (refusal : Refusal) → r.answer ≡ Err refusal → r.domain ≡ d)
     (leb n 999999999) (λ r e. cc) (λ r e. refl)
 
 -- ---- what a set does
@@ -27,4 +28,4 @@ refusal_keeps_set d t s n =
 pub set_keeps_sending :
     (d : Domain) (t : VirtualLocalTime) (s n : ℕ) → (set_of d t s n).domain.sending ≡ d.sending
 set_keeps_sending d t s n =
-    either (λ (r : SetStep). r.domain.sending ≡ d.sending) (leb n 999999999) refl refl
+    either (λ (r : DomainStep (Outcome ⊤)). r.domain.sending ≡ d.sending) (leb n 999999999) refl refl

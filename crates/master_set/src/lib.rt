@@ -3,66 +3,33 @@
 #![tactic(auto)]
 
 ghost use Rattle.std.specs.Prelude.{◌≡◌};
-ghost use Rattle.master_set.specs.Set.{set_number, set_of};
+ghost use Rattle.master_set.specs.Set.{set_of};
 
-use clock::{GlobalTime, Held, TimeBase, VirtualLocalTime};
-use domain::{Domain, next_update};
-use refusal::Refusal;
-
-#[derive(Clone, Copy)]
-pub enum SetAnswer {
-    Done,
-    Refused(Refusal),
-}
-
-impl SetAnswer {
-    // The paper's number.
-    pub fn number(self) -> u8
-        ensures { result ≡ set_number self }
-    {
-        match self {
-            SetAnswer::Done => 0,
-            SetAnswer::Refused(refusal) => refusal.number(),
-        }
-    }
-}
-
-#[derive(Drop)]
-pub struct SetStep {
-    pub answer: SetAnswer,
-    pub domain: Domain,
-}
+use clock::{GlobalTime, TimeBase, VirtualLocalTime};
+use domain::{Domain, DomainStep, next_update};
+use refusal::{Outcome, Refusal};
 
 // The base holds the given time at t, or 9. An open SYNC is not touched.
-pub fn set_time(domain: Domain, t: VirtualLocalTime, seconds: u32, nanoseconds: u32) -> SetStep
+pub fn set_time(
+    domain: Domain,
+    t: VirtualLocalTime,
+    seconds: u32,
+    nanoseconds: u32,
+) -> DomainStep<Outcome<()>>
     ensures { result ≡ set_of domain t seconds nanoseconds }
 {
     if GlobalTime::NANOSECONDS_MAX < nanoseconds {
-        return SetStep {
-            answer: SetAnswer::Refused(Refusal::Nanoseconds),
+        return DomainStep {
+            answer: Err(Refusal::Nanoseconds),
             domain,
         };
     }
-    let settings = domain.settings;
-    let pairing = domain.pairing;
-    let last = domain.last;
-    let sending = domain.sending;
-    let user = domain.user;
-    let leap = domain.leap;
-    SetStep {
-        answer: SetAnswer::Done,
+    DomainStep {
+        answer: Ok(()),
         domain: Domain {
-            settings,
-            base: Held::Set(TimeBase::new(GlobalTime(seconds as u64, nanoseconds), t)),
-            pairing,
-            last,
-            sending,
-            number: domain.number,
-            user,
-            sgw: domain.sgw,
-            leap,
+            base: Some(TimeBase::new(GlobalTime(seconds as u64, nanoseconds), t)),
             updates: next_update(domain.updates),
-            next_counter: domain.next_counter,
+            ..domain
         },
     }
 }

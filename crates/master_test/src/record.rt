@@ -5,10 +5,8 @@ use refusal::Refusal;
 use test_line as line;
 
 pub fn shown(rt: &impl Print, d: Domain) {
-    let base = d.base;
-    let sending = d.sending;
-    line::base(rt, base);
-    sent(rt, sending);
+    line::base(rt, d.base);
+    sent(rt, d.sending);
     ended(rt, d.updates, d.next_counter);
 }
 
@@ -47,23 +45,21 @@ pub fn refused(rt: &impl Print, refusal: Refusal) {
 }
 
 pub fn sync(rt: &impl Print, s: Sync) {
-    let protection = s.protection;
     line::word(rt, b": sync");
     line::small(rt, s.domain);
     line::small(rt, s.counter);
     line::number(rt, s.seconds as u64);
     line::byte(rt, s.user0);
-    protected(rt, protection);
+    protected(rt, s.protection);
 }
 
 pub fn fup(rt: &impl Print, f: Fup) {
-    let protection = f.protection;
     line::word(rt, b": fup");
     line::small(rt, f.domain);
     line::small(rt, f.counter);
     line::time(rt, f.ovs as u64, f.nanoseconds);
     gateway(rt, f.sgw);
-    protected(rt, protection);
+    protected(rt, f.protection);
 }
 
 fn gateway(rt: &impl Print, sgw: bool) {

@@ -2,10 +2,10 @@
 use crate::{inputs, record};
 use clock::VirtualLocalTime;
 use domain::{Domain, Sending};
-use master_confirm::{ConfirmAnswer, confirm};
-use master_follow::{Follow, follow_up};
-use master_send::{SendAnswer, is_due, send};
-use master_set::{SetAnswer, set_time};
+use master_confirm::confirm;
+use master_follow::follow_up;
+use master_send::{is_due, send};
+use master_set::set_time;
 use settings::Role;
 use test_line as line;
 
@@ -32,14 +32,12 @@ pub fn set(rt: &impl Print, d: Domain, t: u64, seconds: u32, nanoseconds: u32) -
     line::time(rt, seconds as u64, nanoseconds);
     line::reading(rt, t);
     let step = set_time(d, VirtualLocalTime(t), seconds, nanoseconds);
-    let answer = step.answer;
-    match answer {
-        SetAnswer::Done => line::word(rt, b": done 0"),
-        SetAnswer::Refused(refusal) => record::refused(rt, refusal),
+    match step.answer {
+        Ok(()) => line::word(rt, b": done 0"),
+        Err(refusal) => record::refused(rt, refusal),
     }
-    let after = step.domain;
-    record::shown(rt, after);
-    after
+    record::shown(rt, step.domain);
+    step.domain
 }
 
 pub fn sent(rt: &impl Print, d: Domain, t: u64) -> Domain {
@@ -49,14 +47,12 @@ pub fn sent(rt: &impl Print, d: Domain, t: u64) -> Domain {
         line::word(rt, b" due");
     }
     let step = send(d, VirtualLocalTime(t));
-    let answer = step.answer;
-    match answer {
-        SendAnswer::Sent(sync) => record::sync(rt, sync),
-        SendAnswer::NotDue => line::word(rt, b": not due"),
+    match step.answer {
+        Some(sync) => record::sync(rt, sync),
+        None => line::word(rt, b": not due"),
     }
-    let after = step.domain;
-    record::shown(rt, after);
-    after
+    record::shown(rt, step.domain);
+    step.domain
 }
 
 pub fn confirmed(rt: &impl Print, d: Domain, t: u64, counter: u8) -> Domain {
@@ -64,14 +60,12 @@ pub fn confirmed(rt: &impl Print, d: Domain, t: u64, counter: u8) -> Domain {
     line::small(rt, counter);
     line::reading(rt, t);
     let step = confirm(d, VirtualLocalTime(t), counter, true);
-    let answer = step.answer;
-    match answer {
-        ConfirmAnswer::Followed(fup) => record::fup(rt, fup),
-        ConfirmAnswer::Refused(refusal) => record::refused(rt, refusal),
+    match step.answer {
+        Ok(fup) => record::fup(rt, fup),
+        Err(refusal) => record::refused(rt, refusal),
     }
-    let after = step.domain;
-    record::shown(rt, after);
-    after
+    record::shown(rt, step.domain);
+    step.domain
 }
 
 // ---- a rule by itself
@@ -89,15 +83,11 @@ pub fn followed(rt: &impl Print, confirmation_time: u32, nanoseconds: u32, t: u6
         at: VirtualLocalTime(0),
     };
     match follow_up(confirmation_time, sending, VirtualLocalTime(t), 0, true) {
-        Follow::With {
-            ovs,
-            nanoseconds: rest,
-            sent_at: _,
-        } => {
+        Ok(follow) => {
             line::word(rt, b":");
-            line::time(rt, ovs as u64, rest);
+            line::time(rt, follow.ovs as u64, follow.nanoseconds);
         }
-        Follow::Refused(refusal) => record::refused(rt, refusal),
+        Err(refusal) => record::refused(rt, refusal),
     }
     line::word(rt, b"\n");
 }

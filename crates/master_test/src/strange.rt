@@ -42,10 +42,9 @@ pub fn updates(rt: &impl Print) {
 
 // The last C that a node holds has OVS 3. With a longer one OVS goes on; past it 11. P is 5 s, C all of its 32 bits.
 pub fn overflow_seconds(rt: &impl Print) {
-    overflow(rt, 3_000_000_000);
-    overflow(rt, 3_000_000_001);
-    overflow(rt, 4_294_967_295);
-    overflow(rt, 4_294_967_296);
+    for t in [3_000_000_000, 3_000_000_001, 4_294_967_295, 4_294_967_296] {
+        overflow(rt, t);
+    }
 }
 
 // One nanosecond before the next second, confirmed at t.

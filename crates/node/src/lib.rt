@@ -14,13 +14,14 @@ ghost use Rattle.std.specs.Prelude.{◌≡◌};
 ghost use Rattle.node.specs.New.{records_of, fresh_node, new_of};
 
 use clock::VirtualLocalTime;
-pub use confirms::{NodeConfirm, on_confirmation};
-pub use cycles::{CycleAnswer, NodeCycle, on_main_cycle};
+pub use confirms::on_confirmation;
+pub use cycles::on_main_cycle;
 use domain::Domain;
-pub use frames::{NodeFrame, on_frame};
+pub use frames::on_frame;
 pub use reads::on_read;
-pub use sets::{NodeSet, on_set};
-use settings::{DomainSettings, NodeSettings, Verdict};
+use refusal::Outcome;
+pub use sets::on_set;
+use settings::{DomainSettings, NodeSettings};
 
 #[derive(Clone, Copy)]
 pub struct Node {
@@ -33,9 +34,10 @@ pub struct Node {
     pub round: u8,
 }
 
+// What a call answers, and the node after it.
 #[derive(Drop)]
-pub struct NewNode {
-    pub verdict: Verdict,
+pub struct NodeStep<A> {
+    pub answer: A,
     pub node: Node,
 }
 
@@ -44,24 +46,18 @@ impl Node {
     pub const DOMAINS: usize = NodeSettings::DOMAINS;
 
     // A fresh node; or 14, and one with all domains absent and S 1.
-    pub fn new(settings: NodeSettings) -> NewNode
+    pub fn new(settings: NodeSettings) -> NodeStep<Outcome<()>>
         ensures { result ≡ new_of settings }
     {
         match settings.judge() {
-            Verdict::Refused(refusal) => {
-                let absent = [DomainSettings::absent(); Node::DOMAINS];
-                NewNode {
-                    verdict: Verdict::Refused(refusal),
-                    node: fresh_node(1, absent),
-                }
-            }
-            Verdict::Good => {
-                let domains = settings.domains;
-                NewNode {
-                    verdict: Verdict::Good,
-                    node: fresh_node(settings.syncs_per_cycle, domains),
-                }
-            }
+            Err(refusal) => NodeStep {
+                answer: Err(refusal),
+                node: fresh_node(1, [DomainSettings::absent(); Node::DOMAINS]),
+            },
+            Ok(()) => NodeStep {
+                answer: Ok(()),
+                node: fresh_node(settings.syncs_per_cycle, settings.domains),
+            },
         }
     }
 }
@@ -81,11 +77,8 @@ fn fresh_records(settings: [DomainSettings; Node::DOMAINS]) -> [Domain; Node::DO
     ensures { result ≡ records_of 0 settings }
 {
     let mut records = [Domain::new(0, DomainSettings::absent()); Node::DOMAINS];
-    let mut d = 0;
-    while d < Node::DOMAINS {
-        let one = settings[d];
-        records[d] = Domain::new(d as u8, one);
-        d += 1;
+    for (d, one) in settings.iter().enumerate() {
+        records[d] = Domain::new(d as u8, *one);
     }
     records
 }

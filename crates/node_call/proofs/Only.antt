@@ -9,13 +9,13 @@ use Rattle.promise.proofs.Laws.{equation_only}
 use Rattle.node.specs.declared.Node.{Node}
 use Rattle.node_call.specs.declared.Request.{Request}
 use Rattle.node_call.specs.declared.CallAnswer.{CallAnswer}
-use Rattle.node_call.specs.declared.Called.{Called}
 use Rattle.node_call.specs.Calls.{call_number}
 use Rattle.node_call.specs.Called.{CalledIn}
+use Rattle.node.specs.declared.NodeStep.{NodeStep}
 
 pub call_only :
     (n : Node) (q : Request) (given before : List ℕ) →
-    OnlyOne (λ (r : Called × List ℕ). CalledIn n q given before r.0 r.1)
+    OnlyOne (λ (r : NodeStep CallAnswer × List ℕ). CalledIn n q given before r.0 r.1)
 call_only n q given before x y p q' =
     let answer = p.answer ∙ sym q'.answer in
     let node = p.node ∙ sym q'.node in

@@ -4,8 +4,9 @@ use Rattle.std.specs.Prelude.{ℕ, ◌≡◌, List}
 use Rattle.node.specs.declared.Node.{Node}
 use Rattle.node_call.specs.declared.Request.{Request}
 use Rattle.node_call.specs.declared.Request.TheVariants as asked
-use Rattle.node_call.specs.declared.Called.{Called}
 use Rattle.node_call.specs.Calls.{Call, frame, read, set, cycle, confirm, node_after, answer_of, bytes_after}
+use Rattle.node.specs.declared.NodeStep.{NodeStep}
+use Rattle.node_call.specs.declared.CallAnswer.{CallAnswer}
 
 -- ---- The call that a request is.
 abbrev pub call_of : Request → (bytes out : List ℕ) → Call
@@ -17,7 +18,7 @@ call_of (asked.Confirm domain t counter) bytes out = confirm domain t counter ou
 
 -- ---- The promise: the answer, the node, and every lent byte.
 pub record CalledIn
-    (n : Node) (q : Request) (given before : List ℕ) (r : Called) (after : List ℕ) : Type 0 where
+    (n : Node) (q : Request) (given before : List ℕ) (r : NodeStep CallAnswer) (after : List ℕ) : Type 0 where
   pub answer : r.answer ≡ answer_of n (call_of q given before)
   pub node : r.node ≡ node_after n (call_of q given before)
   pub bytes : after ≡ bytes_after n (call_of q given before) before

@@ -2,20 +2,18 @@
 -- Assumes nothing.
 use Rattle.std.specs.Prelude.{ℕ, zero, suc, cond, List, [], ◌∷◌, eqb, length, take, drop}
 use Rattle.clock.specs.declared.reading.VirtualLocalTime.{VirtualLocalTime}
-use Rattle.slave_answer.specs.Answer.{frame_number}
-use Rattle.master_set.specs.Set.{set_number}
-use Rattle.master_confirm.specs.Confirm.{confirm_number}
 use Rattle.call_read.specs.declared.Shown.{Shown}
-use Rattle.call_read.specs.Answer.{read_number, read_values}
+use Rattle.call_read.specs.Answer.{read_values}
 use Rattle.node.specs.declared.Node.{Node}
 use Rattle.node.specs.Frame.{node_frame_of}
 use Rattle.node.specs.Read.{node_read_of}
 use Rattle.node.specs.Set.{node_set_of}
-use Rattle.node.specs.CycleAnswer.{cycle_number, cycle_count}
+use Rattle.node.specs.CycleAnswer.{cycle_count}
 use Rattle.node.specs.Cycle.{node_cycle_of, cycle_bytes}
 use Rattle.node.specs.Confirm.{node_confirm_of, confirmed_bytes}
 use Rattle.node_call.specs.declared.CallAnswer.{CallAnswer}
 use Rattle.node_call.specs.declared.CallAnswer.TheVariants.{Frame, Read, Set, Cycle, Confirm}
+use Rattle.refusal.specs.Numbers.{outcome_number}
 
 -- ---- A call; a lent buffer by what it holds.
 pub data Call : Type 0 where
@@ -50,11 +48,11 @@ answer_of n (cycle t out) = Cycle (node_cycle_of n t (length out)).answer
 answer_of n (confirm domain t counter out) = Confirm (node_confirm_of n domain t counter (length out)).answer
 
 abbrev pub call_number : CallAnswer → ℕ
-call_number (Frame answer) = frame_number answer
-call_number (Read answer) = read_number answer
-call_number (Set answer) = set_number answer
-call_number (Cycle answer) = cycle_number answer
-call_number (Confirm answer) = confirm_number answer
+call_number (Frame answer) = outcome_number answer
+call_number (Read answer) = outcome_number answer
+call_number (Set answer) = outcome_number answer
+call_number (Cycle answer) = outcome_number answer
+call_number (Confirm answer) = outcome_number answer
 
 -- ---- A buffer after it: a call that is lent none leaves it.
 abbrev pub bytes_after : Node → Call → (before : List ℕ) → List ℕ
@@ -82,11 +80,11 @@ pub data Answer : Type 0 where
   follows : (number : ℕ) (out : List ℕ) → Answer
 
 abbrev pub told_by : CallAnswer → (out : List ℕ) → Answer
-told_by (Frame answer) out = numbered (frame_number answer)
-told_by (Read answer) out = shows (read_number answer) (read_values answer)
-told_by (Set answer) out = numbered (set_number answer)
-told_by (Cycle answer) out = sends (cycle_number answer) (cycle_count answer) out
-told_by (Confirm answer) out = follows (confirm_number answer) out
+told_by (Frame answer) out = numbered (outcome_number answer)
+told_by (Read answer) out = shows (outcome_number answer) (read_values answer)
+told_by (Set answer) out = numbered (outcome_number answer)
+told_by (Cycle answer) out = sends (outcome_number answer) (cycle_count answer) out
+told_by (Confirm answer) out = follows (outcome_number answer) out
 
 abbrev pub answer_to : Node → Call → Answer
 answer_to n c = told_by (answer_of n c) (bytes_after n c (lent_to c))

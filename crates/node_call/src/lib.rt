@@ -6,12 +6,12 @@ ghost use Rattle.std.specs.Prelude.{◌≡◌};
 ghost use Rattle.node_call.specs.Calls.{call_number};
 ghost use Rattle.node_call.specs.Called.{CalledIn};
 
-use call_read::ReadAnswer;
+use call_read::Shown;
 use clock::VirtualLocalTime;
-use master_confirm::ConfirmAnswer;
-use master_set::SetAnswer;
-use node::{CycleAnswer, Node, on_confirmation, on_frame, on_main_cycle, on_read, on_set};
-use slave_answer::FrameAnswer;
+use frame::Fup;
+use node::{Node, NodeStep, on_confirmation, on_frame, on_main_cycle, on_read, on_set};
+use refusal::{Numbered, Outcome};
+use slave_answer::Taken;
 
 #[derive(Clone, Copy)]
 pub enum Request {
@@ -29,11 +29,11 @@ pub enum Request {
 
 #[derive(Clone, Copy)]
 pub enum CallAnswer {
-    Frame(FrameAnswer),
-    Read(ReadAnswer),
-    Set(SetAnswer),
-    Cycle(CycleAnswer),
-    Confirm(ConfirmAnswer),
+    Frame(Outcome<Taken>),
+    Read(Outcome<Shown>),
+    Set(Outcome<()>),
+    Cycle(Outcome<usize>),
+    Confirm(Outcome<Fup>),
 }
 
 impl CallAnswer {
@@ -51,55 +51,41 @@ impl CallAnswer {
     }
 }
 
-#[derive(Drop)]
-pub struct Called {
-    pub answer: CallAnswer,
-    pub node: Node,
-}
-
 // A frame call takes `frame`; a main cycle and a confirmation are lent `out`.
-pub fn call(node: Node, request: Request, frame: &[u8], out: &mut [u8]) -> Called
+pub fn call(node: Node, request: Request, frame: &[u8], out: &mut [u8]) -> NodeStep<CallAnswer>
     ensures { CalledIn node request frame.now out.old result out.new }
 {
     match request {
         Request::Frame(t) => {
             let step = on_frame(node, t, frame);
-            let answer = step.answer;
-            let after = step.node;
-            Called {
-                answer: CallAnswer::Frame(answer),
-                node: after,
+            NodeStep {
+                answer: CallAnswer::Frame(step.answer),
+                node: step.node,
             }
         }
-        Request::Read(domain, t) => Called {
+        Request::Read(domain, t) => NodeStep {
             answer: CallAnswer::Read(on_read(node, domain, t)),
             node,
         },
         Request::Set(domain, t, seconds, nanoseconds) => {
             let step = on_set(node, domain, t, seconds, nanoseconds);
-            let answer = step.answer;
-            let after = step.node;
-            Called {
-                answer: CallAnswer::Set(answer),
-                node: after,
+            NodeStep {
+                answer: CallAnswer::Set(step.answer),
+                node: step.node,
             }
         }
         Request::Cycle(t) => {
             let step = on_main_cycle(node, t, out);
-            let answer = step.answer;
-            let after = step.node;
-            Called {
-                answer: CallAnswer::Cycle(answer),
-                node: after,
+            NodeStep {
+                answer: CallAnswer::Cycle(step.answer),
+                node: step.node,
             }
         }
         Request::Confirm(domain, t, counter) => {
             let step = on_confirmation(node, domain, t, counter, out);
-            let answer = step.answer;
-            let after = step.node;
-            Called {
-                answer: CallAnswer::Confirm(answer),
-                node: after,
+            NodeStep {
+                answer: CallAnswer::Confirm(step.answer),
+                node: step.node,
             }
         }
     }

@@ -12,6 +12,7 @@
 --   call_ovs_within      so that the OVS of a call's is
 --   follow_exact         and its time is the SYNC's time plus the reading's advance
 -- Assumes nothing.
+use Rattle.std.specs.Prelude.{Err, None, Ok, Option, Some, ⊤}
 use Prim.Native.Nat.{ℕ, ◌≤◌, ◌<◌}
 use mathlib.Core.Path.{◌≡◌, refl, sym, ap, subst}
 use mathlib.Core.Bool.{true, false}
@@ -22,8 +23,6 @@ use Rattle.frame.specs.ByteTwo.{counters}
 use Rattle.clock.specs.declared.reading.VirtualLocalTime.{VirtualLocalTime}
 use Rattle.clock.specs.declared.time.GlobalTime.{GlobalTime}
 use Rattle.clock.specs.declared.base.TimeBase.{TimeBase}
-use Rattle.clock.specs.declared.base.Held.{Held}
-use Rattle.clock.specs.declared.base.Held.TheVariants.{Unset, Set}
 use Rattle.clock.specs.Reading.{span_of}
 use Rattle.clock.specs.Time.{most_set, most_received, IsSet, IsReceived}
 use Rattle.clock.specs.Base.{time_at}
@@ -36,26 +35,24 @@ use Rattle.settings.proofs.ranges.Laws.{master_range}
 use Rattle.domain.specs.declared.Domain.{Domain}
 use Rattle.domain.specs.declared.Sending.{Sending}
 use Rattle.domain.specs.declared.Sending.TheVariants.{Never, Open, Confirmed}
-use Rattle.admission.specs.declared.Admission.{Admission}
 use Rattle.admission.specs.declared.Needed.TheVariants.{Master as master, Either}
 use Rattle.admission.proofs.Laws.{by_admission, master_admitted}
 use Rattle.master_rules.specs.Sent.{protection_of}
-use Rattle.master_follow.specs.declared.Follow.{Follow}
 use Rattle.master_follow.specs.Follow.{whole_of, ovs_of}
 use Rattle.master_follow.proofs.Laws.{whole_exact, ovs_bound, OpenFor, by_follow}
-use Rattle.master_confirm.specs.declared.ConfirmAnswer.TheVariants.{Followed, Refused as not_followed}
 use Rattle.master_confirm.specs.Confirm.{confirm_as}
-use Rattle.call_read.specs.declared.ReadAnswer.TheVariants.{Refused as not_shown}
 use Rattle.call_read.specs.ReadCall.{read_as, read_call_as, read_call_of}
 use Rattle.call_confirm.specs.ConfirmCall.{confirm_call_as, confirm_call_of}
 use Rattle.node_laws.specs.Good.{HeldWithin, SentWithin, RoleGood, RecordGood}
 use Rattle.node_laws.specs.Bounds.{HoldsReceived, ShowsRead, OvsMost, TimeExact, Follows}
+use Rattle.refusal.specs.Numbers.{Outcome}
+use Rattle.master_follow.specs.declared.Follow.{Follow}
 
 -- ---- the base, whatever the role
 
-wider : (kept : VirtualLocalTime) (b : Held) → HeldWithin most_set kept b → HeldWithin most_received kept b
-wider kept Unset h = h
-wider kept (Set b) h = (omega arith, h.1, h.2)
+wider : (kept : VirtualLocalTime) (b : Option TimeBase) → HeldWithin most_set kept b → HeldWithin most_received kept b
+wider kept None h = h
+wider kept (Some b) h = (omega arith, h.1, h.2)
 
 held_as_lem : (r : Role) (kept : VirtualLocalTime) (d : Domain) → RoleGood r kept d → HeldWithin most_received kept d.base
 held_as_lem Absent kept d g = subst (λ (x : Domain). HeldWithin most_received kept x.base) (sym g) tt
@@ -85,7 +82,7 @@ followed_by d counter ovs nanoseconds =
     }
 
 module _ (P : Fup → Type 0) (d : Domain) (kept t : VirtualLocalTime) (counter : ℕ) where
-  none : (refusal : Refusal) (f : Fup) → not_followed refusal ≡ Followed f → P f
+  none : (refusal : Refusal) (f : Fup) → Err refusal ≡ Ok f → P f
   none refusal f e = let no : ◌≡◌ {A = ℕ} 0 1 = cc in absurd (omega arith)
 
   pub by_followed :
@@ -93,13 +90,13 @@ module _ (P : Fup → Type 0) (d : Domain) (kept t : VirtualLocalTime) (counter 
       (d.settings.role ≡ Master → kept.0 ≤ t.0 → (from : GlobalTime) (at : VirtualLocalTime) →
       OpenFor d.settings.confirmation_time d.sending t counter from at →
       P (followed_by d counter (ovs_of from at t) (whole_of from at t).1)) →
-      (f : Fup) → (confirm_call_of d kept asked t counter length).answer ≡ Followed f → P f
+      (f : Fup) → (confirm_call_of d kept asked t counter length).answer ≡ Ok f → P f
   by_followed asked length holds =
       by_admission
-      (λ (a : Admission). (f : Fup) → (confirm_call_as a d kept t counter length).answer ≡ Followed f → P f)
+      (λ (a : Outcome ⊤). (f : Fup) → (confirm_call_as a d kept t counter length).answer ≡ Ok f → P f)
       kept t d.number d.settings.role asked master
       (λ tested.
-      by_follow (λ (x : Follow). (f : Fup) → (confirm_as x d counter).answer ≡ Followed f → P f)
+      by_follow (λ (x : Outcome Follow). (f : Fup) → (confirm_as x d counter).answer ≡ Ok f → P f)
       d.settings.confirmation_time d.sending t counter (leb 8 length) (none _) (none _)
       (λ from at told has_room f e.
       let same : followed_by d counter (ovs_of from at t) (whole_of from at t).1 ≡ f = cc in
@@ -107,27 +104,27 @@ module _ (P : Fup → Type 0) (d : Domain) (kept t : VirtualLocalTime) (counter 
       (none _) (none _)
 
 module _ (i : ℕ) (kept : VirtualLocalTime) (d : Domain) (g : RecordGood i kept d) where
-  within : (b : TimeBase) → d.base ≡ Set b → HeldWithin most_received kept (Set b)
+  within : (b : TimeBase) → d.base ≡ Some b → HeldWithin most_received kept (Some b)
   within b e = subst (HeldWithin most_received kept) e (held_as_lem d.settings.role kept d g.role)
 
-  pub base_within : (b : TimeBase) → d.base ≡ Set b → IsReceived b.time
+  pub base_within : (b : TimeBase) → d.base ≡ Some b → IsReceived b.time
   base_within b e = let h = within b e in record { whole = h.0; part = h.1 }
 
   pub received_within : HoldsReceived d
   received_within r b e = let h = within b e in record { whole = omega (arith, h.0); part = h.1 }
 
-  pub set_within : d.settings.role ≡ Master → (b : TimeBase) → d.base ≡ Set b → IsSet b.time
+  pub set_within : d.settings.role ≡ Master → (b : TimeBase) → d.base ≡ Some b → IsSet b.time
   set_within r b e =
       let h = subst (HeldWithin most_set kept) e (subst (λ (r : Role). RoleGood r kept d) r g.role).base in
       record { whole = h.0; part = h.1 }
 
-  pub base_before : (b : TimeBase) → d.base ≡ Set b → b.at.0 ≤ kept.0
+  pub base_before : (b : TimeBase) → d.base ≡ Some b → b.at.0 ≤ kept.0
   base_before b e = (within b e).2
 
   -- ---- the time at a reading
 
   pub time_exact_here :
-      (b : TimeBase) (t : VirtualLocalTime) → d.base ≡ Set b → kept.0 ≤ t.0 → t.0 ≤ 1000000000000000000 →
+      (b : TimeBase) (t : VirtualLocalTime) → d.base ≡ Some b → kept.0 ≤ t.0 → t.0 ≤ 1000000000000000000 →
       TimeExact b.time b.at (time_at b t) t
   time_exact_here b t e le in_range =
       omega (arith, base_before b e, time_exact b t (base_within b e) in_range)
@@ -135,15 +132,15 @@ module _ (i : ℕ) (kept : VirtualLocalTime) (d : Domain) (g : RecordGood i kept
   pub read_within :
       (asked : ℕ) (t : VirtualLocalTime) → ShowsRead (read_call_of d kept asked t)
   read_within asked t =
-      by_admission (λ (a : Admission). ShowsRead (read_call_as a d t)) kept t d.number d.settings.role asked
+      by_admission (λ (a : Outcome ⊤). ShowsRead (read_call_as a d t)) kept t d.number d.settings.role asked
       Either (λ tested. by_base tested.in_range d.base refl) (refused _) (refused _)
     where
-      refused : (refusal : Refusal) → ShowsRead (not_shown refusal)
+      refused : (refusal : Refusal) → ShowsRead (Err refusal)
       refused refusal shown e = let z : ◌≡◌ {A = ℕ} 0 1 = cc in absurd (omega arith)
 
-      by_base : t.0 ≤ 1000000000000000000 → (h : Held) → d.base ≡ h → ShowsRead (read_as h d t)
-      by_base in_range Unset is shown e = refused _ shown e
-      by_base in_range (Set b) is shown e =
+      by_base : t.0 ≤ 1000000000000000000 → (h : Option TimeBase) → d.base ≡ h → ShowsRead (read_as h d t)
+      by_base in_range None is shown e = refused _ shown e
+      by_base in_range (Some b) is shown e =
           let same : time_at b t ≡ shown.time = cc in
           let bound = read_bound b t (base_within b is) in_range in
           rw (← same) (record { whole = omega (arith, bound.whole); part = bound.part })
@@ -198,7 +195,7 @@ module _ (i : ℕ) (kept : VirtualLocalTime) (d : Domain) (g : RecordGood i kept
         (λ is le from at told. omega (arith, ovs_here is t counter from at told))
 
     pub follow_exact :
-        (f : Fup) → (confirm_call_of d kept asked t counter length).answer ≡ Followed f → Follows d.sending counter t f
+        (f : Fup) → (confirm_call_of d kept asked t counter length).answer ≡ Ok f → Follows d.sending counter t f
     follow_exact =
         by_followed (Follows d.sending counter t) d kept t counter asked length
         (λ is le from at told. follow_here is t counter from at told le)

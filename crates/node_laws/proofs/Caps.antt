@@ -10,6 +10,7 @@
 --   bench_answer   and after one more SYNC its FUP is answered by a D
 --   bench_moved    which is the difference itself
 -- Assumes nothing.
+use Rattle.std.specs.Prelude.{Err, None, Ok, Option, Result, Some, ⊤}
 use Prim.Native.Nat.{ℕ, ◌+◌, ◌-◌, ◌%◌, ◌≤◌, ◌<◌}
 use mathlib.Core.Path.{◌≡◌, refl, sym, ap, ◌∙◌, subst}
 use mathlib.Core.Bool.{true}
@@ -26,21 +27,11 @@ use Rattle.promise.proofs.Lists.{get_d_any}
 use Rattle.clock.specs.declared.reading.VirtualLocalTime.{VirtualLocalTime}
 use Rattle.clock.specs.declared.time.GlobalTime.{GlobalTime}
 use Rattle.clock.specs.declared.base.TimeBase.{TimeBase}
-use Rattle.clock.specs.declared.base.Held.{Held}
-use Rattle.clock.specs.declared.base.Held.TheVariants.{Unset, Set}
 use Rattle.clock.specs.Reading.{is_reading}
 use Rattle.clock.specs.Time.{IsReceived, IsRead}
 use Rattle.clock.specs.Base.{time_at}
 use Rattle.clock.proofs.Laws.{time_exact, read_bound}
 use Rattle.clock.proofs.difference.Laws.{difference_read}
-use Rattle.frame.specs.declared.types.FrameType.{FrameType}
-use Rattle.frame.specs.declared.types.FrameType.TheVariants.{
-  PlainSync,
-  SecuredSync,
-  PlainFup,
-  SecuredFup,
-  Unknown as no_type,
-}
 use Rattle.frame.specs.declared.values.Sync.{Sync}
 use Rattle.frame.specs.declared.values.Fup.{Fup}
 use Rattle.frame.specs.declared.values.Frame.{Frame}
@@ -48,8 +39,6 @@ use Rattle.frame.specs.declared.values.Frame.TheVariants.{Sync as sync, Fup as f
 use Rattle.frame.specs.ByteTwo.{counters}
 use Rattle.frame.specs.Types.{type_of}
 use Rattle.frame.specs.Values.{domain_in}
-use Rattle.frame_read.specs.declared.Read.{Read}
-use Rattle.frame_read.specs.declared.Read.TheVariants.{Values, LengthNot8, NoSuchType}
 use Rattle.frame_read.specs.Read.{read_of, values_of}
 use Rattle.frame_check.specs.Check.{is_taken}
 use Rattle.frame_laws.proofs.Laws.{byte_below}
@@ -57,26 +46,18 @@ use Rattle.refusal.specs.declared.Refusal.{Refusal}
 use Rattle.settings.specs.declared.domain_settings.Role.{Role}
 use Rattle.settings.specs.declared.domain_settings.Role.TheVariants.{Absent, Slave, Master}
 use Rattle.settings.specs.Node.{places}
-use Rattle.admission.specs.declared.Admission.{Admission}
 use Rattle.admission.specs.declared.Needed.TheVariants.{Slave as slave, Either}
-use Rattle.admission.specs.declared.frames.FrameAdmission.{FrameAdmission}
-use Rattle.admission.specs.declared.frames.FrameAdmission.TheVariants.{Refused}
 use Rattle.admission.specs.Reading.{is_good_reading}
 use Rattle.admission.specs.Admission.{is_in, is_for}
 use Rattle.admission.specs.FrameAdmission.{read_for}
 use Rattle.admission.proofs.Laws.{Tested, good_reading, by_admission, slave_admitted}
 use Rattle.domain.specs.declared.Domain.{Domain}
 use Rattle.domain.specs.declared.Pair.{Pair}
-use Rattle.domain.specs.declared.Pairing.{Pairing}
-use Rattle.domain.specs.declared.Pairing.TheVariants.{Open as open_pair}
 use Rattle.domain.specs.declared.LastSync.TheVariants.{Seen}
 use Rattle.domain.specs.Records.{record_at}
 use Rattle.slave_counter.specs.Counter.{jump_of}
 use Rattle.slave_counter.proofs.Laws.{jump_exact}
-use Rattle.slave_pair.specs.declared.joining.Joined.{Joined}
 use Rattle.slave_pair.proofs.Laws.{Joins, by_joined}
-use Rattle.slave_answer.specs.declared.FrameAnswer.TheVariants.{Updated}
-use Rattle.slave_answer.specs.declared.FrameStep.{FrameStep}
 use Rattle.slave_answer.specs.Answer.{refused_of}
 use Rattle.slave_update.specs.Update.{new_base, moved_by}
 use Rattle.slave_update.proofs.Laws.{received_bound}
@@ -85,13 +66,10 @@ use Rattle.slave_counter.specs.declared.RowCheck.TheVariants.{NotGood, Joins as 
 use Rattle.slave_sync.specs.Sync.{check_for, sync_as}
 use Rattle.slave_fup.specs.Fup.{update_in, fup_as}
 use Rattle.slave_frame.specs.Step.{kind_of}
-use Rattle.master_rules.specs.declared.due.Due.{Due}
-use Rattle.master_rules.specs.declared.due.Due.TheVariants.{At}
 use Rattle.master_rules.proofs.Laws.{by_due}
 use Rattle.master_send.specs.Send.{due_in}
 use Rattle.call_frame.specs.FrameCall.{frame_call_as, frame_call_of}
 use Rattle.call_read.specs.declared.Shown.{Shown}
-use Rattle.call_read.specs.declared.ReadAnswer.TheVariants.{Time, Refused as not_shown}
 use Rattle.call_read.specs.ReadCall.{read_as, read_call_as, read_call_of}
 use Rattle.round.specs.Round.{goes}
 use Rattle.node.specs.declared.Node.{Node}
@@ -131,21 +109,39 @@ use Rattle.node_laws.proofs.Slave.{pair_before}
 use Rattle.node_laws.proofs.Reachable.{reachable_good}
 use Rattle.node_laws.proofs.Laws.{stored_at}
 use Rattle.node_laws.proofs.Witness.{is_call_lem, bench_reached, bench_held}
+use Rattle.domain.specs.declared.DomainStep.{DomainStep}
+use Rattle.frame.specs.declared.types.FrameType.{FrameType}
+use Rattle.frame.specs.declared.types.FrameType.TheVariants.{PlainFup, PlainSync, SecuredFup, SecuredSync}
+use Rattle.frame_read.specs.declared.NoFrame.{NoFrame}
+use Rattle.frame_read.specs.declared.NoFrame.TheVariants.{LengthNot8, NoSuchType}
+use Rattle.master_rules.specs.declared.due.Due.{Due}
+use Rattle.refusal.specs.Numbers.{Outcome}
+use Rattle.slave_answer.specs.declared.Taken.{Taken}
+use Rattle.slave_answer.specs.declared.Taken.TheVariants.{Updated}
+
+-- ---- the parts of the time of a domain that is due
+abbrev seconds_due : Option Due → ℕ
+seconds_due None = 0
+seconds_due (Some due) = due.seconds
+
+abbrev nanoseconds_due : Option Due → ℕ
+nanoseconds_due None = 0
+nanoseconds_due (Some due) = due.nanoseconds
 
 -- ---- what a frame carries: a counter of four bits, and an OVS of two
 
-abbrev Carried : Read → Type 0
-Carried LengthNot8 = Unit {0}
-Carried NoSuchType = Unit {0}
-Carried (Values (sync s)) = s.counter < counters
-Carried (Values (fup f)) = f.ovs ≤ 3
+abbrev Carried : Result Frame NoFrame → Type 0
+Carried (Err LengthNot8) = Unit {0}
+Carried (Err NoSuchType) = Unit {0}
+Carried (Ok (sync s)) = s.counter < counters
+Carried (Ok (fup f)) = f.ovs ≤ 3
 
-values_carried : (type : FrameType) (bytes : List ℕ) → Carried (values_of type bytes)
-values_carried PlainSync bytes = omega arith
-values_carried SecuredSync bytes = omega arith
-values_carried PlainFup bytes = omega arith
-values_carried SecuredFup bytes = omega arith
-values_carried no_type bytes = tt
+values_carried : (type : Option FrameType) (bytes : List ℕ) → Carried (values_of type bytes)
+values_carried (Some PlainSync) bytes = omega arith
+values_carried (Some SecuredSync) bytes = omega arith
+values_carried (Some PlainFup) bytes = omega arith
+values_carried (Some SecuredFup) bytes = omega arith
+values_carried None bytes = tt
 
 read_carried : (bytes : List ℕ) → Carried (read_of bytes)
 read_carried bytes = either Carried (eqb (length bytes) 8) (values_carried (type_of (get_or bytes 0 0)) bytes) tt
@@ -197,8 +193,8 @@ module _ (i : ℕ) (kept : VirtualLocalTime) (d : Domain) (g : RecordGood i kept
   last_here = last_as d.settings.role kept d g.role
 
   pub pair_here :
-      (p : Pair) → d.pairing ≡ open_pair p →
-      PairWithin kept d.settings.follow_up_time d.settings.hysteresis d.last (open_pair p)
+      (p : Pair) → d.pairing ≡ Some p →
+      PairWithin kept d.settings.follow_up_time d.settings.hysteresis d.last (Some p)
   pair_here p e =
       subst (PairWithin kept d.settings.follow_up_time d.settings.hysteresis d.last) e
       (pair_as d.settings.role kept d g.role)
@@ -209,7 +205,7 @@ module _ (i : ℕ) (kept : VirtualLocalTime) (d : Domain) (g : RecordGood i kept
   seen_here counter row at e = subst (LastWithin kept d.settings.hysteresis) e last_here
 
   -- the open pair is the last SYNC's, or older than F
-  paired_before : (p : Pair) → d.pairing ≡ open_pair p → p.at.0 ≤ kept.0
+  paired_before : (p : Pair) → d.pairing ≡ Some p → p.at.0 ≤ kept.0
   paired_before p e =
       ⊎_elim (λ own. pair_before kept d.settings.hysteresis d.last p own last_here)
       (λ old. omega (arith, old)) (pair_here p e).1
@@ -232,12 +228,12 @@ module _ (i : ℕ) (kept : VirtualLocalTime) (d : Domain) (g : RecordGood i kept
     as_slave = subst (λ (r : Role). RoleGood r kept d) is g.role
 
     pub joined_moved :
-        (old : TimeBase) (p : Pair) (f : Fup) → d.base ≡ Set old → d.pairing ≡ open_pair p → f.ovs ≤ 3 →
+        (old : TimeBase) (p : Pair) (f : Fup) → d.base ≡ Some old → d.pairing ≡ Some p → f.ovs ≤ 3 →
         f.nanoseconds ≤ 999999999 → MovedExact old (new_base p f) (moved_by old (new_base p f))
     joined_moved old p f set there ovs ns =
         let at = held_before p.at (of_pair p there) in
-        let first : BaseFirst d.pairing (Set old) = subst (BaseFirst d.pairing) set as_slave.first in
-        let order : old.at.0 ≤ p.at.0 = subst (λ (q : Pairing). BaseFirst q (Set old)) there first in
+        let first : BaseFirst d.pairing (Some old) = subst (BaseFirst d.pairing) set as_slave.first in
+        let order : old.at.0 ≤ p.at.0 = subst (λ (q : Option Pair). BaseFirst q (Some old)) there first in
         let received = base_within i kept d g old set in
         let within : p.at.0 ≤ 1000000000000000000 = omega arith in
         let whole = (pair_here i kept d g p there).0 in
@@ -250,21 +246,21 @@ module _ (i : ℕ) (kept : VirtualLocalTime) (d : Domain) (g : RecordGood i kept
         }
 
   module _ (t : VirtualLocalTime) (bytes : List ℕ) (moved : ℤ) where
-    abbrev StepMoves : FrameStep → Type 0
-    StepMoves s = s.answer ≡ Updated moved → Moves d.base s.domain.base moved
+    abbrev StepMoves : DomainStep (Outcome Taken) → Type 0
+    StepMoves s = s.answer ≡ Ok (Updated moved) → Moves d.base s.domain.base moved
 
-    abbrev CallMoves : FrameAdmission → Type 0
+    abbrev CallMoves : Outcome Frame → Type 0
     CallMoves a =
-        (frame_call_as a d kept t bytes).answer ≡ Updated moved →
+        (frame_call_as a d kept t bytes).answer ≡ Ok (Updated moved) →
         Moves d.base (frame_call_as a d kept t bytes).domain.base moved
 
     fup_moves :
         d.settings.role ≡ Slave → (f : Fup) → f.ovs ≤ 3 → (p : Pair) →
-        Joins d.settings.follow_up_time d.pairing t f p → (h : Held) → d.base ≡ h →
-        (update_in d h (new_base p f)).answer ≡ Updated moved →
-        Moves d.base (Set (new_base p f)) moved
-    fup_moves is f ovs p told Unset was e = let no : ◌≡◌ {A = ℕ} 0 1 = cc in absurd (omega arith)
-    fup_moves is f ovs p told (Set old) was e =
+        Joins d.settings.follow_up_time d.pairing t f p → (h : Option TimeBase) → d.base ≡ h →
+        ◌≡◌ {A = Outcome Taken} (Ok (update_in d h (new_base p f)).answer) (Ok (Updated moved)) →
+        Moves d.base (Some (new_base p f)) moved
+    fup_moves is f ovs p told None was e = let no : ◌≡◌ {A = ℕ} 0 1 = cc in absurd (omega arith)
+    fup_moves is f ovs p told (Some old) was e =
         let same : moved_by old (new_base p f) ≡ moved = cc in
         record {
           old = old;
@@ -284,19 +280,19 @@ module _ (i : ℕ) (kept : VirtualLocalTime) (d : Domain) (g : RecordGood i kept
     sync_moves s (joins_row row) e = let no : ◌≡◌ {A = ℕ} 0 1 = cc in absurd (omega arith)
     sync_moves s (Complete row) e = let no : ◌≡◌ {A = ℕ} 0 1 = cc in absurd (omega arith)
 
-    kind_moves : d.settings.role ≡ Slave → (values : Frame) → Carried (Values values) → StepMoves (kind_of d t values)
+    kind_moves : d.settings.role ≡ Slave → (values : Frame) → Carried (Ok values) → StepMoves (kind_of d t values)
     kind_moves is (sync s) c = sync_moves s (check_for d t s)
     kind_moves is (fup f) c =
-        by_joined (λ (j : Joined). StepMoves (fup_as j d f)) d.settings.follow_up_time d.pairing t f
+        by_joined (λ (j : Outcome Pair). StepMoves (fup_as j d f)) d.settings.follow_up_time d.pairing t f
         (refused_step _) (refused_step _) (refused_step _) (λ p told. fup_moves is f c p told d.base refl)
 
-    refused_moves : (refusal : Refusal) → CallMoves (Refused refusal)
+    refused_moves : (refusal : Refusal) → CallMoves (Err refusal)
     refused_moves refusal e = let no : ◌≡◌ {A = ℕ} 0 1 = cc in absurd (omega arith)
 
-    read_moves : (r : Read) → Carried r → CallMoves (read_for r d.number d.settings.role)
-    read_moves LengthNot8 c = refused_moves _
-    read_moves NoSuchType c = refused_moves _
-    read_moves (Values values) c =
+    read_moves : (r : Result Frame NoFrame) → Carried r → CallMoves (read_for r d.number d.settings.role)
+    read_moves (Err LengthNot8) c = refused_moves _
+    read_moves (Err NoSuchType) c = refused_moves _
+    read_moves (Ok values) c =
         either_told CallMoves (is_for d.number d.settings.role (domain_in values) slave)
         (λ for.
         let is =
@@ -308,7 +304,7 @@ module _ (i : ℕ) (kept : VirtualLocalTime) (d : Domain) (g : RecordGood i kept
         (λ e. refused_moves _)
 
     pub frame_moved :
-        (frame_call_of d kept t bytes).answer ≡ Updated moved →
+        (frame_call_of d kept t bytes).answer ≡ Ok (Updated moved) →
         Moves d.base (frame_call_of d kept t bytes).domain.base moved
     frame_moved =
         either CallMoves (is_good_reading kept t) (read_moves (read_of bytes) (read_carried bytes)) (refused_moves _)
@@ -317,21 +313,21 @@ module _ (i : ℕ) (kept : VirtualLocalTime) (d : Domain) (g : RecordGood i kept
 
 module _ (i : ℕ) (kept : VirtualLocalTime) (d : Domain) (g : RecordGood i kept d) (t : VirtualLocalTime) where
   refused_shows :
-      (refusal : Refusal) (shown : Shown) → not_shown refusal ≡ Time shown → TimeOf d.base t shown.time
+      (refusal : Refusal) (shown : Shown) → Err refusal ≡ Ok shown → TimeOf d.base t shown.time
   refused_shows refusal shown e = let no : ◌≡◌ {A = ℕ} 0 1 = cc in absurd (omega arith)
 
   pub shown_exact :
-      (asked : ℕ) (shown : Shown) → read_call_of d kept asked t ≡ Time shown → TimeOf d.base t shown.time
+      (asked : ℕ) (shown : Shown) → read_call_of d kept asked t ≡ Ok shown → TimeOf d.base t shown.time
   shown_exact asked shown =
-      by_admission (λ (a : Admission). read_call_as a d t ≡ Time shown → TimeOf d.base t shown.time) kept t
+      by_admission (λ (a : Outcome ⊤). read_call_as a d t ≡ Ok shown → TimeOf d.base t shown.time) kept t
       d.number d.settings.role asked Either (λ tested. by_base tested d.base refl)
       (refused_shows _ shown) (refused_shows _ shown)
     where
       by_base :
-          Tested kept t d.settings.role Either → (h : Held) → d.base ≡ h → read_as h d t ≡ Time shown →
+          Tested kept t d.settings.role Either → (h : Option TimeBase) → d.base ≡ h → read_as h d t ≡ Ok shown →
           TimeOf d.base t shown.time
-      by_base tested Unset is e = refused_shows _ shown e
-      by_base tested (Set b) is e =
+      by_base tested None is e = refused_shows _ shown e
+      by_base tested (Some b) is e =
           let same : time_at b t ≡ shown.time = cc in
           record {
             base = b;
@@ -343,15 +339,15 @@ module _ (i : ℕ) (kept : VirtualLocalTime) (d : Domain) (g : RecordGood i kept
 
   pub sent_exact :
       kept.0 ≤ t.0 → t.0 ≤ 1000000000000000000 → (seconds nanoseconds : ℕ) →
-      due_in d t ≡ At seconds nanoseconds → TimeOf d.base t (record { 0 = seconds; 1 = nanoseconds })
+      due_in d t ≡ Some (record { seconds = seconds; nanoseconds = nanoseconds }) → TimeOf d.base t (record { 0 = seconds; 1 = nanoseconds })
   sent_exact le in_range seconds nanoseconds =
       by_due
-      (λ (due : Due). due ≡ At seconds nanoseconds → TimeOf d.base t (record { 0 = seconds; 1 = nanoseconds }))
+      (λ (due : Option Due). due ≡ Some (record { seconds = seconds; nanoseconds = nanoseconds }) → TimeOf d.base t (record { 0 = seconds; 1 = nanoseconds }))
       d.settings.role d.settings.period d.base d.sending t
       (λ e. let no : ◌≡◌ {A = ℕ} 0 1 = cc in absurd (omega arith))
       (λ b told e.
-      let first : (time_at b t).0 ≡ seconds = cc in
-      let second : (time_at b t).1 ≡ nanoseconds = cc in
+      let first : (time_at b t).0 ≡ seconds = ap seconds_due e in
+      let second : (time_at b t).1 ≡ nanoseconds = ap nanoseconds_due e in
       record {
         base = b;
         is = told.held;
@@ -427,7 +423,7 @@ paired = node_after bench next_sync
 abbrev next_fup : List ℕ
 next_fup = 0x18 ∷ 0 ∷ 0x12 ∷ 0 ∷ 0 ∷ 0 ∷ 0 ∷ 200 ∷ []
 
-pub bench_answer : (node_frame_of paired (record { 0 = 8010000000 }) next_fup).answer ≡ Updated (pos 100)
+pub bench_answer : (node_frame_of paired (record { 0 = 8010000000 }) next_fup).answer ≡ Ok (Updated (pos 100))
 unfolding goes
 bench_answer = refl
 

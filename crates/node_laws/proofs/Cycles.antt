@@ -7,6 +7,7 @@
 --   given_here     the frames that are cut from the buffer are those of the round
 --   cycle_given    so are those that a main cycle gives that is not refused
 -- Assumes nothing.
+use Rattle.std.specs.Prelude.{None, Option, Some}
 use Prim.Native.Nat.{ℕ, zero, suc, ◌+◌, ◌*◌, ◌≤◌, ◌<◌, min}
 use mathlib.Core.Path.{◌≡◌, refl, sym, ap, ◌∙◌}
 use mathlib.Core.Bool.{Bool, true, false, cond}
@@ -28,8 +29,6 @@ use Rattle.frame_laws.proofs.Laws.{named_back}
 use Rattle.refusal.specs.declared.Refusal.TheVariants.{NoRoom}
 use Rattle.admission.specs.Reading.{is_good_reading}
 use Rattle.domain.specs.declared.Domain.{Domain}
-use Rattle.master_send.specs.declared.SendAnswer.{SendAnswer}
-use Rattle.master_send.specs.declared.SendAnswer.TheVariants.{Sent, NotDue}
 use Rattle.master_send.specs.Send.{is_due, send_of}
 use Rattle.settings.specs.Node.{places}
 use Rattle.domain.specs.Records.{record_at}
@@ -38,14 +37,15 @@ use Rattle.round.specs.FirstDue.{Each, served_of, frame_by}
 use Rattle.round.proofs.Walk.{sum_below}
 use Rattle.round.proofs.FirstDue.{round_frames, round_count, served_below}
 use Rattle.node.specs.declared.Node.{Node}
-use Rattle.node.specs.declared.cycles.NodeCycle.{NodeCycle}
 use Rattle.node.specs.Frame.{addressed_by}
-use Rattle.node.specs.CycleAnswer.{cycle_number, cycle_count}
+use Rattle.node.specs.CycleAnswer.{cycle_count}
 use Rattle.node.specs.Cycle.{is_room_for, gone_from, cycled_by, cycle_refused, cycle_bytes}
 use Rattle.node_call.specs.Calls.{cycle, sends, answer_to, number_in, eights, given_by}
 use Rattle.node_laws.specs.Due.{count_below, due_count}
 use Rattle.node_laws.specs.Back.{joined, IsEight, OfSent}
 use Rattle.node_laws.specs.Demands.{SyncsStand}
+use Rattle.node.specs.declared.NodeStep.{NodeStep}
+use Rattle.refusal.specs.Numbers.{Outcome, outcome_number}
 
 -- ---- how many there are
 
@@ -62,10 +62,10 @@ due_count_lem most t ds first =
 -- ---- what holds of each frame of a round
 
 each_by :
-    (P : List ℕ → Type 0) (a : SendAnswer) (ids : DataIds) (rest : List (List ℕ)) →
-    ((s : Sync) → a ≡ Sent s → P (bytes_of ids (sync s))) → Each P rest → Each P (frames_by a ids ++ rest)
-each_by P (Sent s) ids rest p e = (p s refl, e)
-each_by P NotDue ids rest p e = e
+    (P : List ℕ → Type 0) (a : Option Sync) (ids : DataIds) (rest : List (List ℕ)) →
+    ((s : Sync) → a ≡ Some s → P (bytes_of ids (sync s))) → Each P rest → Each P (frames_by a ids ++ rest)
+each_by P (Some s) ids rest p e = (p s refl, e)
+each_by P None ids rest p e = e
 
 module _ (P : List ℕ → Type 0) (most : ℕ) (t : VirtualLocalTime) (ds : List Domain) (p : OfSent P t ds) where
   each_said :
@@ -135,10 +135,10 @@ module _ (n : Node) (t : VirtualLocalTime) (out : List ℕ) where
   abbrev count : ℕ
   count = min n.syncs_per_cycle (due_count n.domains t)
 
-  abbrev Whole : NodeCycle → Type 0
+  abbrev Whole : NodeStep (Outcome ℕ) → Type 0
   Whole r =
-      cycle_number r.answer ≡ 0 →
-      sends (cycle_number r.answer) (cycle_count r.answer) (cycle_bytes r.answer n t out)
+      outcome_number r.answer ≡ 0 →
+      sends (outcome_number r.answer) (cycle_count r.answer) (cycle_bytes r.answer n t out)
       ≡ sends 0 count (joined sent ++ drop (8 * count) out)
 
   counted : length sent ≡ count
@@ -170,9 +170,9 @@ module _ (n : Node) (t : VirtualLocalTime) (out : List ℕ) where
   given_here room =
       ap (eights (length sent)) (stand room) ∙ eights_back sent (drop (8 * length sent) out) all_eight
 
-  abbrev Given : NodeCycle → Type 0
+  abbrev Given : NodeStep (Outcome ℕ) → Type 0
   Given r =
-      cycle_number r.answer ≡ 0 → eights (cycle_count r.answer) (cycle_bytes r.answer n t out) ≡ sent
+      outcome_number r.answer ≡ 0 → eights (cycle_count r.answer) (cycle_bytes r.answer n t out) ≡ sent
 
   pub cycle_given :
       number_in (answer_to n (cycle t out)) ≡ 0 → given_by (answer_to n (cycle t out)) ≡ (gone_from n t).frames

@@ -5,6 +5,7 @@
 --                   changes
 --   h_zero_keeps    where H is 0 a refused call leaves the node as it was, and none is answered 15
 -- Assumes nothing.
+use Rattle.std.specs.Prelude.{None, Ok, Option, Result, Some}
 use Prim.Native.Nat.{ℕ}
 use mathlib.Core.Path.{◌≡◌, refl, sym, ap, ◌∙◌}
 use mathlib.Core.Bool.{Bool, true, false, false≢true, ◌||◌}
@@ -16,8 +17,6 @@ use lib.ListN.{length, get_or}
 use borrow.Author.Tests.{eqb-true, eqb-false}
 use Rattle.promise.proofs.Tests.{either, neither}
 use Rattle.clock.specs.declared.reading.VirtualLocalTime.{VirtualLocalTime}
-use Rattle.frame.specs.declared.types.FrameType.{FrameType}
-use Rattle.frame.specs.declared.types.FrameType.TheVariants.{PlainSync, SecuredSync, PlainFup, SecuredFup, Unknown}
 use Rattle.frame.specs.declared.values.Protection.{Protection}
 use Rattle.frame.specs.declared.values.Protection.TheVariants.{Plain, Secured}
 use Rattle.frame.specs.declared.values.Fup.{Fup}
@@ -25,24 +24,18 @@ use Rattle.frame.specs.declared.values.Frame.{Frame}
 use Rattle.frame.specs.declared.values.Frame.TheVariants.{Sync as sync, Fup as fup}
 use Rattle.frame.specs.Types.{type_of}
 use Rattle.frame.specs.Values.{domain_in}
-use Rattle.frame_read.specs.declared.Read.{Read}
-use Rattle.frame_read.specs.declared.Read.TheVariants.{Values}
 use Rattle.frame_read.specs.Read.{sync_in, fup_in, values_of}
 use Rattle.frame_check.specs.Check.{is_taken}
 use Rattle.admission.specs.declared.Needed.TheVariants.{Slave}
-use Rattle.admission.specs.declared.frames.FrameAdmission.{FrameAdmission}
 use Rattle.admission.specs.Reading.{is_good_reading}
 use Rattle.admission.specs.Admission.{is_for}
 use Rattle.admission.specs.FrameAdmission.{read_for}
 use Rattle.domain.specs.declared.Domain.{Domain}
 use Rattle.domain.specs.Fields.{with_last}
 use Rattle.slave_counter.proofs.Laws.{last_stays}
-use Rattle.slave_answer.specs.declared.FrameStep.{FrameStep}
-use Rattle.slave_answer.specs.Answer.{frame_number}
 use Rattle.slave_sync.specs.Sync.{sync_of}
 use Rattle.slave_sync.proofs.Laws.{six_keeps_sync, fifteen_keeps_sync}
 use Rattle.slave_frame.specs.Step.{kind_of}
-use Rattle.call_frame.specs.declared.FrameCall.{FrameCall}
 use Rattle.call_frame.specs.FrameCall.{frame_kept, frame_stepped, frame_call_as, frame_call_of}
 use Rattle.node.specs.declared.Node.{Node}
 use Rattle.node.specs.Store.{stored_in}
@@ -53,6 +46,13 @@ use Rattle.node_laws.specs.Refused.{IsRefused}
 use Rattle.node_laws.specs.Excepted.{named, after_six, JoinedRow, IsExcepted, IsFrame, HZero}
 use Rattle.node_laws.proofs.Laws.{stored_same, refusal_keeps}
 use Rattle.node_laws.proofs.Order.{kind_order, order}
+use Rattle.domain.specs.declared.DomainCall.{DomainCall}
+use Rattle.domain.specs.declared.DomainStep.{DomainStep}
+use Rattle.frame.specs.declared.types.FrameType.{FrameType}
+use Rattle.frame.specs.declared.types.FrameType.TheVariants.{PlainFup, PlainSync, SecuredFup, SecuredSync}
+use Rattle.frame_read.specs.declared.NoFrame.{NoFrame}
+use Rattle.refusal.specs.Numbers.{Outcome, outcome_number}
+use Rattle.slave_answer.specs.declared.Taken.{Taken}
 
 -- ---- 6 and 15 are the numbers of a SYNC, and no other test has them
 
@@ -89,42 +89,42 @@ frames_only n (confirm domain t counter out) e = excluded _ (other_number n (con
 not_so : {A : Type 0} → false ≡ true → A
 not_so e = absurd (false≢true e)
 
-module _ (d : Domain) (kept t : VirtualLocalTime) (bytes : List ℕ) (P : FrameCall → Type 0)
+module _ (d : Domain) (kept t : VirtualLocalTime) (bytes : List ℕ) (P : DomainCall (Outcome Taken) → Type 0)
     (taken : (p : Protection) → P (frame_stepped (sync_of d t (sync_in bytes p)) kept t)) where
-  abbrev Excepted : FrameCall → Type 0
-  Excepted r = is_excepted (frame_number r.answer) ≡ true → P r
+  abbrev Excepted : DomainCall (Outcome Taken) → Type 0
+  Excepted r = is_excepted (outcome_number r.answer) ≡ true → P r
 
-  abbrev ExceptedRead : Read → Type 0
+  abbrev ExceptedRead : Result Frame NoFrame → Type 0
   ExceptedRead r = Excepted (frame_call_as (read_for r d.number d.settings.role) d kept t bytes)
 
   by_values :
-      (values : Frame) → Excepted (frame_stepped (kind_of d t values) kept t) → ExceptedRead (Values values)
+      (values : Frame) → Excepted (frame_stepped (kind_of d t values) kept t) → ExceptedRead (Ok values)
   by_values values found =
-      either (λ (a : FrameAdmission). Excepted (frame_call_as a d kept t bytes))
+      either (λ (a : Outcome Frame). Excepted (frame_call_as a d kept t bytes))
       (is_for d.number d.settings.role (domain_in values) Slave)
-      (either (λ (s : FrameStep). Excepted (frame_stepped s kept t))
+      (either (λ (s : DomainStep (Outcome Taken)). Excepted (frame_stepped s kept t))
       (is_taken d.settings.mode d.settings.ids bytes) found not_so)
       not_so
 
-  a_sync : (p : Protection) → ExceptedRead (Values (sync (sync_in bytes p)))
+  a_sync : (p : Protection) → ExceptedRead (Ok (sync (sync_in bytes p)))
   a_sync p = by_values (sync (sync_in bytes p)) (λ e. taken p)
 
-  a_fup : (f : Fup) → ExceptedRead (Values (fup f))
+  a_fup : (f : Fup) → ExceptedRead (Ok (fup f))
   a_fup f =
-      let tests = kind_tests (Values (fup f)) d t in
+      let tests = kind_tests (Ok (fup f)) d t in
       let none = ap is_excepted (kind_order d kept t bytes (fup f)) ∙ other_tests tests refl in
       by_values (fup f) (λ e. not_so (sym none ∙ e))
 
-  by_type : (type : FrameType) → ExceptedRead (values_of type bytes)
-  by_type PlainSync = a_sync (Plain (get_or bytes 1 0))
-  by_type SecuredSync = a_sync Secured
-  by_type PlainFup = a_fup (fup_in bytes (Plain (get_or bytes 1 0)))
-  by_type SecuredFup = a_fup (fup_in bytes Secured)
-  by_type Unknown = not_so
+  by_type : (type : Option FrameType) → ExceptedRead (values_of type bytes)
+  by_type (Some PlainSync) = a_sync (Plain (get_or bytes 1 0))
+  by_type (Some SecuredSync) = a_sync Secured
+  by_type (Some PlainFup) = a_fup (fup_in bytes (Plain (get_or bytes 1 0)))
+  by_type (Some SecuredFup) = a_fup (fup_in bytes Secured)
+  by_type None = not_so
 
   by_sync : Excepted (frame_call_of d kept t bytes)
   by_sync =
-      either (λ (a : FrameAdmission). Excepted (frame_call_as a d kept t bytes)) (is_good_reading kept t)
+      either (λ (a : Outcome Frame). Excepted (frame_call_as a d kept t bytes)) (is_good_reading kept t)
       (either ExceptedRead (eqb (length bytes) 8) (by_type (type_of (get_or bytes 0 0))) not_so) not_so
 
 -- ---- what it changes
@@ -133,7 +133,7 @@ module _ (n : Node) (t : VirtualLocalTime) (bytes : List ℕ) where
   abbrev d : Domain
   d = named n bytes
 
-  abbrev stored : FrameCall → Node
+  abbrev stored : DomainCall (Outcome Taken) → Node
   stored r = stored_in n (addressed_by bytes) r.domain r.kept
 
   abbrev kept_under : (number : ℕ) → VirtualLocalTime
@@ -141,14 +141,14 @@ module _ (n : Node) (t : VirtualLocalTime) (bytes : List ℕ) where
 
   pub six_keeps : number_in (answer_to n (frame t bytes)) ≡ 6 → node_after n (frame t bytes) ≡ after_six n bytes
   six_keeps e =
-      by_sync d n.kept t bytes (λ r. frame_number r.answer ≡ 6 → stored r ≡ after_six n bytes)
+      by_sync d n.kept t bytes (λ r. outcome_number r.answer ≡ 6 → stored r ≡ after_six n bytes)
       (λ p six i. stored_in n (addressed_by bytes) (six_keeps_sync d t (sync_in bytes p) six i) (ap kept_under six i))
       (ap is_excepted e) e
 
   pub fifteen_keeps :
       number_in (answer_to n (frame t bytes)) ≡ 15 → JoinedRow n t bytes (node_after n (frame t bytes))
   fifteen_keeps e =
-      by_sync d n.kept t bytes (λ r. frame_number r.answer ≡ 15 → JoinedRow n t bytes (stored r))
+      by_sync d n.kept t bytes (λ r. outcome_number r.answer ≡ 15 → JoinedRow n t bytes (stored r))
       (λ p fifteen.
       let joined = fifteen_keeps_sync d t (sync_in bytes p) fifteen in
       record {

@@ -9,6 +9,7 @@
 --   taken_met           counters 5, 6, 7, and the FUP of 7: it is taken
 --   taken_later_met     counters 5, 6, 7 exactly L after, 11, which is refused, and the FUP of 7: it is taken
 -- Assumes nothing.
+use Rattle.std.specs.Prelude.{None, Ok, Option, Some}
 use Prim.Native.Nat.{ℕ, ◌+◌}
 use mathlib.Core.Path.{◌≡◌, refl}
 use mathlib.Core.List.{List, [], ◌∷◌}
@@ -17,12 +18,9 @@ use Rattle.clock.specs.declared.reading.VirtualLocalTime.{VirtualLocalTime}
 use Rattle.frame_check.specs.declared.CheckMode.TheVariants.{NotValidated}
 use Rattle.settings.specs.declared.domain_settings.DomainSettings.{DomainSettings}
 use Rattle.settings.specs.declared.node_settings.NodeSettings.{NodeSettings}
-use Rattle.settings.specs.declared.node_settings.Verdict.TheVariants.{Good}
 use Rattle.settings.specs.Domain.{absent_held, as_slave}
 use Rattle.domain.specs.declared.LastSync.{LastSync}
 use Rattle.domain.specs.declared.LastSync.TheVariants.{Seen}
-use Rattle.domain.specs.declared.Pairing.{Pairing}
-use Rattle.domain.specs.declared.Pairing.TheVariants.{Waiting, Open}
 use Rattle.domain.specs.Fresh.{fresh_of}
 use Rattle.domain.specs.Fields.{with_pairing, with_last}
 use Rattle.node.specs.declared.Node.{Node}
@@ -32,6 +30,7 @@ use Rattle.node_call.specs.Calls.{Call, frame, node_after, node_after_all, answe
 use Rattle.node_laws.specs.Reachable.{AreCalls, Reachable, new}
 use Rattle.node_laws.specs.InRow.{Heard, accepted, refused, heard_in}
 use Rattle.node_laws.proofs.Witness.{reaches}
+use Rattle.domain.specs.declared.Pair.{Pair}
 
 abbrev row_slave : DomainSettings
 row_slave = as_slave 1 2 100 1000 0 0 1 NotValidated absent_held.ids
@@ -39,7 +38,7 @@ row_slave = as_slave 1 2 100 1000 0 0 1 NotValidated absent_held.ids
 abbrev row_settings : NodeSettings
 row_settings = record { syncs_per_cycle = 1; domains = absent_held ∷ row_slave ∷ replicate 14 absent_held }
 
-pub row_settings_good : (new_of row_settings).verdict ≡ Good
+pub row_settings_good : (new_of row_settings).answer ≡ Ok tt
 row_settings_good = refl
 
 -- ---- a plain SYNC of 100 seconds for domain 1; the node after such frames
@@ -58,7 +57,7 @@ row_reached = reaches (new_of row_settings).node (new row_settings refl)
 
 -- ---- the fresh node but for a pairing, a SYNC accepted last, and a kept reading
 
-abbrev standing : Pairing → LastSync → (kept : ℕ) → Node
+abbrev standing : Option Pair → LastSync → (kept : ℕ) → Node
 standing pairing last kept =
     stored_in (new_of row_settings).node 1 (with_last (with_pairing (fresh_of 1 row_slave) pairing) last) (reading kept)
 
@@ -73,13 +72,13 @@ two = sync_at 10 5 ∷ sync_at 20 6 ∷ []
 abbrev three : List Call
 three = sync_at 10 5 ∷ sync_at 20 6 ∷ sync_at 30 7 ∷ []
 
-abbrev pair_of_seven : Pairing
-pair_of_seven = Open (record { at = reading 30; seconds = 100; counter = 7; user0 = 0; user1 = 0 })
+abbrev pair_of_seven : Option Pair
+pair_of_seven = Some (record { at = reading 30; seconds = 100; counter = 7; user0 = 0; user1 = 0 })
 
-pub fifteen_met : Leaves (sync_at 10 5 ∷ []) (sync_at 20 6) 15 (standing Waiting (Seen 6 1 (reading 20)) 20)
+pub fifteen_met : Leaves (sync_at 10 5 ∷ []) (sync_at 20 6) 15 (standing None (Seen 6 1 (reading 20)) 20)
 fifteen_met = (refl, refl)
 
-pub six_met : Leaves two (sync_at 30 9) 6 (standing Waiting (Seen 6 0 (reading 20)) 20)
+pub six_met : Leaves two (sync_at 30 9) 6 (standing None (Seen 6 0 (reading 20)) 20)
 six_met = (refl, refl)
 
 pub six_complete_met : Leaves three (sync_at 40 11) 6 (standing pair_of_seven (Seen 7 2 (reading 30)) 30)

@@ -1,6 +1,7 @@
 -- A fresh node. No contract cites this file.
 --   new_good   what `new` gives is good: the node of good settings, and the one beside a refusal
 -- Assumes nothing.
+use Rattle.std.specs.Prelude.{None, ⊤}
 use Prim.Native.Nat.{ℕ, zero, suc, ◌+◌, ◌<◌}
 use mathlib.Core.Path.{◌≡◌, refl, ◌∙◌, ap}
 use mathlib.Core.Bool.{true, false, ◌&&◌}
@@ -12,27 +13,24 @@ use lib.ListN.{length, replicate}
 use Rattle.settings.specs.Node.{places}
 use Rattle.promise.proofs.Tests.{either_told, both}
 use Rattle.clock.specs.declared.reading.VirtualLocalTime.{VirtualLocalTime}
-use Rattle.clock.specs.declared.base.Held.TheVariants.{Unset}
 use Rattle.settings.specs.declared.domain_settings.DomainSettings.{DomainSettings}
 use Rattle.settings.specs.declared.domain_settings.Role.{Role}
 use Rattle.settings.specs.declared.domain_settings.Role.TheVariants.{Absent, Slave, Master}
 use Rattle.settings.specs.declared.node_settings.NodeSettings.{NodeSettings}
-use Rattle.settings.specs.declared.node_settings.Verdict.{Verdict}
 use Rattle.settings.specs.Ranges.{within, is_good}
 use Rattle.settings.specs.Domain.{absent_held, held_as}
 use Rattle.settings.specs.Node.{all_good}
 use Rattle.settings.proofs.ranges.Laws.{held_good}
 use Rattle.settings.proofs.Laws.{held_twice}
 use Rattle.domain.specs.declared.Domain.{Domain}
-use Rattle.domain.specs.declared.Pairing.TheVariants.{Waiting}
 use Rattle.domain.specs.declared.LastSync.TheVariants.{Unknown}
 use Rattle.domain.specs.declared.Sending.TheVariants.{Never}
-use Rattle.domain.specs.declared.Leap.TheVariants.{None}
 use Rattle.domain.specs.Fresh.{fresh_of}
 use Rattle.domain.specs.Records.{record_at}
 use Rattle.node.specs.New.{records_of, fresh_node, new_as, new_of}
 use Rattle.node_laws.specs.Reachable.{are_ids, all_ids, IsSettings}
 use Rattle.node_laws.specs.Good.{RoleGood, RecordGood, Good}
+use Rattle.refusal.specs.Numbers.{Outcome}
 
 -- ---- a fresh record, by what is held of its settings
 
@@ -40,8 +38,8 @@ abbrev fresh_with : ℕ → DomainSettings → Domain
 fresh_with number held =
     record {
       settings = held;
-      base = Unset;
-      pairing = Waiting;
+      base = None;
+      pairing = None;
       last = Unknown;
       sending = Never;
       number = number;
@@ -132,7 +130,7 @@ node_good syncs l w good is =
 
 pub new_good : (s : NodeSettings) → IsSettings s → Good (new_of s).node
 new_good s n =
-    either_told (λ (v : Verdict). Good (new_as v s).node)
+    either_told (λ (v : Outcome ⊤). Good (new_as v s).node)
     (within 1 16 s.syncs_per_cycle && all_good s.domains)
     (λ e.
     let h = both (within 1 16 s.syncs_per_cycle) (all_good s.domains) e in

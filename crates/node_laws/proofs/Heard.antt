@@ -2,6 +2,7 @@
 --   heard_held   after any calls from `new` on the SYNC that a record holds is the one accepted last; while its row is
 --                not complete, so many came in a row, and if it is, the row has come: `Held`
 -- Assumes nothing.
+use Rattle.std.specs.Prelude.{Err, Ok, Result, ⊤}
 use Prim.Native.Nat.{ℕ, zero, suc, ◌+◌, ◌≤◌, ◌<◌}
 use mathlib.Core.Path.{◌≡◌, refl, sym, subst}
 use mathlib.Core.Bool.{Bool, true, false, ◌&&◌}
@@ -20,18 +21,13 @@ use Rattle.frame.specs.declared.values.Fup.{Fup}
 use Rattle.frame.specs.declared.values.Frame.{Frame}
 use Rattle.frame.specs.declared.values.Frame.TheVariants.{Sync as sync, Fup as fup}
 use Rattle.frame.specs.Values.{domain_in}
-use Rattle.frame_read.specs.declared.Read.{Read}
-use Rattle.frame_read.specs.declared.Read.TheVariants.{Values, LengthNot8, NoSuchType}
 use Rattle.frame_read.specs.Read.{read_of}
 use Rattle.frame_check.specs.Check.{is_taken}
 use Rattle.settings.specs.declared.domain_settings.DomainSettings.{DomainSettings}
 use Rattle.settings.specs.declared.node_settings.NodeSettings.{NodeSettings}
-use Rattle.settings.specs.declared.node_settings.Verdict.{Verdict}
-use Rattle.settings.specs.declared.node_settings.Verdict.TheVariants.{Good as good_ones, Refused as refused_ones}
 use Rattle.settings.specs.Domain.{absent_held}
 use Rattle.settings.specs.Node.{places, judged_of}
 use Rattle.admission.specs.declared.Needed.TheVariants.{Slave}
-use Rattle.admission.specs.declared.frames.FrameAdmission.{FrameAdmission}
 use Rattle.admission.specs.Reading.{is_good_reading}
 use Rattle.admission.specs.Admission.{is_for}
 use Rattle.admission.specs.FrameAdmission.{read_for}
@@ -45,15 +41,10 @@ use Rattle.slave_counter.specs.declared.RowCheck.{RowCheck}
 use Rattle.slave_counter.specs.Counter.{jump_of, verdict_of}
 use Rattle.slave_counter.specs.Row.{row_of, with_row, row_refused}
 use Rattle.slave_counter.proofs.Laws.{Checked, not_joined, begins, alone, joins, completes, checked}
-use Rattle.slave_pair.specs.declared.joining.Joined.{Joined}
-use Rattle.slave_pair.specs.declared.joining.Joined.TheVariants.{With, Refused as no_pair}
 use Rattle.slave_pair.specs.Join.{joined_of}
-use Rattle.slave_answer.specs.declared.FrameStep.{FrameStep}
-use Rattle.slave_answer.specs.Answer.{frame_number}
 use Rattle.slave_sync.specs.Sync.{verdict_for, check_for, sync_as}
 use Rattle.slave_fup.specs.Fup.{fup_as}
 use Rattle.slave_frame.specs.Step.{kind_of}
-use Rattle.call_frame.specs.declared.FrameCall.{FrameCall}
 use Rattle.call_frame.specs.FrameCall.{frame_call_as, frame_call_of}
 use Rattle.node.specs.declared.Node.{Node}
 use Rattle.node.specs.New.{records_of, new_as, new_of}
@@ -72,6 +63,13 @@ use Rattle.node_laws.specs.InRow.{
   LastAccepted,
 }
 use Rattle.node_laws.proofs.Stays.{KeptByMaster, set_call_keeps, cycle_call_keeps, confirm_call_keeps}
+use Rattle.domain.specs.declared.DomainCall.{DomainCall}
+use Rattle.domain.specs.declared.DomainStep.{DomainStep}
+use Rattle.domain.specs.declared.Pair.{Pair}
+use Rattle.frame_read.specs.declared.NoFrame.{NoFrame}
+use Rattle.frame_read.specs.declared.NoFrame.TheVariants.{LengthNot8, NoSuchType}
+use Rattle.refusal.specs.Numbers.{Outcome, outcome_number}
+use Rattle.slave_answer.specs.declared.Taken.{Taken}
 
 -- ---- what a record holds of the SYNCs heard
 
@@ -178,8 +176,8 @@ module _ (d : Domain) (t : VirtualLocalTime) (s : Sync) (heard : List Heard) (m 
       let none : 0 ≡ h = omega (arith, le) in
       inl (subst (λ (r : ℕ). InARow j l r now) none tt)
 
-  abbrev Next : FrameStep → Type 0
-  Next r = Held r.domain (heard_of t (Values (sync s)) (frame_number r.answer) ++ heard)
+  abbrev Next : DomainStep (Outcome Taken) → Type 0
+  Next r = Held r.domain (heard_of t (Ok (sync s)) (outcome_number r.answer) ++ heard)
 
   sync_as_lem : (v : CounterVerdict) (k : RowCheck) → verdict_for d t s ≡ v → Checked h row v k → Next (sync_as k d t s)
   sync_as_lem v k told not_joined = refused_held j l h d.last heard m
@@ -196,49 +194,49 @@ module _ (d : Domain) (t : VirtualLocalTime) (s : Sync) (heard : List Heard) (m 
 -- ---- a frame on one record
 
 module _ (d : Domain) (kept t : VirtualLocalTime) (bytes : List ℕ) (heard : List Heard) (m : Held d heard) where
-  fup_held : (joined : Joined) (f : Fup) → Held (fup_as joined d f).domain heard
-  fup_held (no_pair refusal) f = m
-  fup_held (With p) f = m
+  fup_held : (joined : Outcome Pair) (f : Fup) → Held (fup_as joined d f).domain heard
+  fup_held (Err refusal) f = m
+  fup_held (Ok p) f = m
 
   kind_held :
       (values : Frame) → let r = kind_of d t values in
-      Held r.domain (heard_of t (Values values) (frame_number r.answer) ++ heard)
+      Held r.domain (heard_of t (Ok values) (outcome_number r.answer) ++ heard)
   kind_held (sync s) = sync_held d t s heard m
   kind_held (fup f) = fup_held (joined_of d.settings.follow_up_time d.pairing t f) f
 
-  abbrev CallHeld : Read → FrameCall → Type 0
-  CallHeld r c = Held c.domain (heard_of t r (frame_number c.answer) ++ heard)
+  abbrev CallHeld : Result Frame NoFrame → DomainCall (Outcome Taken) → Type 0
+  CallHeld r c = Held c.domain (heard_of t r (outcome_number c.answer) ++ heard)
 
   not_heard :
       (values : Frame) (number : ℕ) → eqb number 6 ≡ false → eqb number 0 ≡ false → eqb number 15 ≡ false →
-      Held d (heard_of t (Values values) number ++ heard)
+      Held d (heard_of t (Ok values) number ++ heard)
   not_heard (sync s) number six none fifteen = rw (six, none, fifteen) m
   not_heard (fup f) number six none fifteen = m
 
   values_held :
       (values : Frame) →
-      CallHeld (Values values)
-      (frame_call_as (read_for (Values values) d.number d.settings.role) d kept t bytes)
+      CallHeld (Ok values)
+      (frame_call_as (read_for (Ok values) d.number d.settings.role) d kept t bytes)
   values_held values =
-      either (λ (a : FrameAdmission). CallHeld (Values values) (frame_call_as a d kept t bytes))
+      either (λ (a : Outcome Frame). CallHeld (Ok values) (frame_call_as a d kept t bytes))
       (is_for d.number d.settings.role (domain_in values) Slave)
-      (either (λ (s : FrameStep). Held s.domain (heard_of t (Values values) (frame_number s.answer) ++ heard))
+      (either (λ (s : DomainStep (Outcome Taken)). Held s.domain (heard_of t (Ok values) (outcome_number s.answer) ++ heard))
       (is_taken d.settings.mode d.settings.ids bytes) (kind_held values) (not_heard values 5 refl refl refl))
       (not_heard values 4 refl refl refl)
 
-  read_held : (r : Read) → CallHeld r (frame_call_as (read_for r d.number d.settings.role) d kept t bytes)
-  read_held (Values values) = values_held values
-  read_held LengthNot8 = m
-  read_held NoSuchType = m
+  read_held : (r : Result Frame NoFrame) → CallHeld r (frame_call_as (read_for r d.number d.settings.role) d kept t bytes)
+  read_held (Ok values) = values_held values
+  read_held (Err LengthNot8) = m
+  read_held (Err NoSuchType) = m
 
-  unread : (r : Read) → Held d (heard_of t r 1 ++ heard)
-  unread (Values values) = not_heard values 1 refl refl refl
-  unread LengthNot8 = m
-  unread NoSuchType = m
+  unread : (r : Result Frame NoFrame) → Held d (heard_of t r 1 ++ heard)
+  unread (Ok values) = not_heard values 1 refl refl refl
+  unread (Err LengthNot8) = m
+  unread (Err NoSuchType) = m
 
   call_held : CallHeld (read_of bytes) (frame_call_of d kept t bytes)
   call_held =
-      either (λ (a : FrameAdmission). CallHeld (read_of bytes) (frame_call_as a d kept t bytes)) (is_good_reading kept t)
+      either (λ (a : Outcome Frame). CallHeld (read_of bytes) (frame_call_as a d kept t bytes)) (is_good_reading kept t)
       (read_held (read_of bytes)) (unread (read_of bytes))
 
 -- ---- a record stored at its place; beyond the records nothing is, and a record there has heard nothing
@@ -256,14 +254,14 @@ frame_held :
     Held (record_at (node_after n (frame t bytes)).domains i) (heard_by i n (frame t bytes) ++ heard)
 frame_held n t bytes i heard m =
     let at = addressed_by bytes in
-    let after : ℕ → FrameCall = λ place. frame_call_of (record_at n.domains place) n.kept t bytes in
+    let after : ℕ → DomainCall (Outcome Taken) = λ place. frame_call_of (record_at n.domains place) n.kept t bytes in
     let Next : (place : ℕ) → List Heard → Type 0 =
     λ place new. Held (record_at (put n.domains place (after place).domain) i) (new ++ heard) in
-    let own : Next i (heard_of t (read_of bytes) (frame_number (after i).answer)) =
+    let own : Next i (heard_of t (read_of bytes) (outcome_number (after i).answer)) =
     own_held n.domains i (after i).domain _ (call_held (record_at n.domains i) n.kept t bytes heard m) in
     either_told (Next at) (eqb at i)
     (λ e.
-    subst (λ (place : ℕ). Next place (heard_of t (read_of bytes) (frame_number (after place).answer)))
+    subst (λ (place : ℕ). Next place (heard_of t (read_of bytes) (outcome_number (after place).answer)))
     (sym (eqb-true at i e)) own)
     (λ e.
     subst (λ (d : Domain). Held d heard)
@@ -307,9 +305,9 @@ records_fresh number [] i = tt
 records_fresh number (s ∷ rest) zero = tt
 records_fresh number (s ∷ rest) (suc i) = records_fresh (number + 1) rest i
 
-fresh_held : (v : Verdict) (s : NodeSettings) (i : ℕ) → Held (record_at (new_as v s).node.domains i) []
-fresh_held good_ones s i = records_fresh 0 s.domains i
-fresh_held (refused_ones refusal) s i = records_fresh 0 (replicate places absent_held) i
+fresh_held : (v : Outcome ⊤) (s : NodeSettings) (i : ℕ) → Held (record_at (new_as v s).node.domains i) []
+fresh_held (Ok tt) s i = records_fresh 0 s.domains i
+fresh_held (Err refusal) s i = records_fresh 0 (replicate places absent_held) i
 
 pub heard_held :
     (s : NodeSettings) (cs : List Call) (i : ℕ) → let fresh = (new_of s).node in

@@ -2,6 +2,7 @@
 --   taken_in_row   a FUP that is taken is of the SYNC accepted last, and by then H came in a row
 --   stale_pair     a pair that 15 leaves open is older than F: no FUP joins it
 -- Assumes nothing.
+use Rattle.std.specs.Prelude.{Err, None, Ok, Option, Result, Some}
 use Prim.Native.Nat.{ℕ, ◌≤◌, ◌<◌}
 use mathlib.Core.Path.{◌≡◌, refl, sym, ap, ◌∙◌, subst}
 use mathlib.Core.Bool.{Bool, true, false, not, cond}
@@ -17,8 +18,6 @@ use Rattle.frame.specs.declared.values.Fup.{Fup}
 use Rattle.frame.specs.declared.values.Frame.TheVariants.{Fup as fup}
 use Rattle.frame.specs.Types.{type_of}
 use Rattle.frame.specs.ByteTwo.{counter_of}
-use Rattle.frame_read.specs.declared.Read.{Read}
-use Rattle.frame_read.specs.declared.Read.TheVariants.{Values, LengthNot8}
 use Rattle.frame_read.specs.Read.{named_domain, values_of}
 use Rattle.frame_check.specs.Check.{is_taken}
 use Rattle.admission.specs.declared.Needed.TheVariants.{Slave}
@@ -26,8 +25,6 @@ use Rattle.admission.specs.Reading.{is_good_reading}
 use Rattle.admission.proofs.Laws.{good_reading}
 use Rattle.domain.specs.declared.Domain.{Domain}
 use Rattle.domain.specs.declared.Pair.{Pair}
-use Rattle.domain.specs.declared.Pairing.{Pairing}
-use Rattle.domain.specs.declared.Pairing.TheVariants.{Waiting, Open}
 use Rattle.domain.specs.declared.LastSync.{LastSync}
 use Rattle.domain.specs.declared.LastSync.TheVariants.{Unknown, Seen}
 use Rattle.domain.specs.Fields.{with_last}
@@ -47,6 +44,9 @@ use Rattle.node_laws.proofs.Excepted.{fifteen_keeps}
 use Rattle.node_laws.proofs.Caps.{pair_here}
 use Rattle.node_laws.proofs.Witness.{reaches}
 use Rattle.node_laws.proofs.Heard.{Holds, Held, heard_held}
+use Rattle.frame.specs.declared.values.Frame.{Frame}
+use Rattle.frame_read.specs.declared.NoFrame.{NoFrame}
+use Rattle.frame_read.specs.declared.NoFrame.TheVariants.{LengthNot8}
 
 here : (n : Node) → Reachable n → (bytes : List ℕ) → RecordGood (addressed_by bytes) n.kept (named n bytes)
 here n r bytes = (reachable_good n r).records (addressed_by bytes) (omega arith)
@@ -89,10 +89,10 @@ module _ (n : Node) (r : Reachable n) (t : VirtualLocalTime) (bytes : List ℕ) 
   d = named n bytes
 
   found :
-      (pairing : Pairing) → d.pairing ≡ pairing → no_open_pair d.settings.follow_up_time pairing t ≡ false →
+      (pairing : Option Pair) → d.pairing ≡ pairing → no_open_pair d.settings.follow_up_time pairing t ≡ false →
       not_the_pairs pairing f ≡ false → AfterRow d.settings t f heard
-  found Waiting is e same = let no : ◌≡◌ {A = ℕ} 0 1 = cc in absurd (omega arith)
-  found (Open p) is e same =
+  found None is e same = let no : ◌≡◌ {A = ℕ} 0 1 = cc in absurd (omega arith)
+  found (Some p) is e same =
       let near = ltb-false _ _ e in
       let own =
       own_at n.kept t _ _ d.last p le near
@@ -118,9 +118,9 @@ taken_in_row s is-settings cs are t bytes f reads e =
     let four = passed (not_for d (named_domain bytes) Slave) 4 _ refl three.1 in
     let five = passed (not (is_taken d.settings.mode d.settings.ids bytes)) 5 _ refl four.1 in
     let eight = is_true (eqb (length bytes) 8) two.0 in
-    let is : values ≡ Values (fup f) =
-    subst (λ (b : Bool). cond b values LengthNot8 ≡ Values (fup f)) eight reads in
-    let tests = subst (λ (v : Read). first_of (kind_tests v d t) ≡ 0) is five.1 in
+    let is : values ≡ Ok (fup f) =
+    subst (λ (b : Bool). cond b values (Err LengthNot8) ≡ Ok (fup f)) eight reads in
+    let tests = subst (λ (v : Result Frame NoFrame). first_of (kind_tests v d t) ≡ 0) is five.1 in
     let le = (good_reading n.kept t (is_true (is_good_reading n.kept t) one.0)).0 in
     let seven = passed _ 7 _ refl tests in
     let same = passed _ 8 _ refl seven.1 in

@@ -3,6 +3,7 @@
 --   after_one     a record after a call for it depends on the kept reading through number 1 alone
 --   undisturbed   on a reachable node a domain's own calls among others are answered as they are alone
 -- Assumes nothing.
+use Rattle.std.specs.Prelude.{Err, Ok, ⊤}
 use Prim.Native.Nat.{ℕ, ◌%◌, ◌<◌}
 use mathlib.Core.Path.{◌≡◌, refl, sym, ap, ◌∙◌}
 use mathlib.Core.Bool.{Bool, true, false, cond, false≢true}
@@ -12,10 +13,6 @@ use borrow.Author.Tests.{eqb-true}
 use Rattle.clock.specs.declared.reading.VirtualLocalTime.{VirtualLocalTime}
 use Rattle.frame_read.specs.Read.{read_of}
 use Rattle.settings.specs.Node.{places}
-use Rattle.admission.specs.declared.Admission.{Admission}
-use Rattle.admission.specs.declared.Admission.TheVariants.{Admitted, Refused}
-use Rattle.admission.specs.declared.frames.FrameAdmission.{FrameAdmission}
-use Rattle.admission.specs.declared.frames.FrameAdmission.TheVariants.{Admitted as admitted, Refused as refused}
 use Rattle.admission.specs.FrameAdmission.{read_for}
 use Rattle.domain.specs.declared.Domain.{Domain}
 use Rattle.domain.specs.Records.{record_at}
@@ -52,27 +49,29 @@ use Rattle.node_laws.specs.Apart.{
 use Rattle.node_laws.proofs.Reachable.{call_good, reachable_good}
 use Rattle.node_laws.proofs.Laws.{other_domains, own_domain, own_after}
 use Rattle.node_laws.proofs.Through.{for_master, through_one}
+use Rattle.frame.specs.declared.values.Frame.{Frame}
+use Rattle.refusal.specs.Numbers.{Outcome}
 
 -- ---- an admitted call makes the record without a look at the kept reading
 
 module _ (d : Domain) (k l t : VirtualLocalTime) where
   frame_makes :
-      (a : FrameAdmission) (bytes : List ℕ) →
+      (a : Outcome Frame) (bytes : List ℕ) →
       (frame_call_as a d k t bytes).domain ≡ (frame_call_as a d l t bytes).domain
-  frame_makes (refused refusal) bytes = refl
-  frame_makes (admitted values) bytes = refl
+  frame_makes (Err refusal) bytes = refl
+  frame_makes (Ok values) bytes = refl
 
   set_makes :
-      (a : Admission) (seconds nanoseconds : ℕ) →
+      (a : Outcome ⊤) (seconds nanoseconds : ℕ) →
       (set_call_as a d k t seconds nanoseconds).domain ≡ (set_call_as a d l t seconds nanoseconds).domain
-  set_makes (Refused refusal) seconds nanoseconds = refl
-  set_makes Admitted seconds nanoseconds = refl
+  set_makes (Err refusal) seconds nanoseconds = refl
+  set_makes (Ok tt) seconds nanoseconds = refl
 
   confirm_makes :
-      (a : Admission) (counter length : ℕ) →
+      (a : Outcome ⊤) (counter length : ℕ) →
       (confirm_call_as a d k t counter length).domain ≡ (confirm_call_as a d l t counter length).domain
-  confirm_makes (Refused refusal) counter length = refl
-  confirm_makes Admitted counter length = refl
+  confirm_makes (Err refusal) counter length = refl
+  confirm_makes (Ok tt) counter length = refl
 
 pub after_one :
     (n : Node) (k : VirtualLocalTime) (c : Call) (i : ℕ) → Own c i → Timely n c → Timely (keeping n k) c →

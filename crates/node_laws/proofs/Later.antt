@@ -2,39 +2,38 @@
 --   later        a record that is good at a kept reading is good at every later one
 --   kept_stays   a kept reading that stays only grows, in its range (`Grows`)
 -- Assumes nothing.
+use Rattle.std.specs.Prelude.{None, Option, Some}
 use Prim.Native.Nat.{ℕ, ◌≤◌}
 use mathlib.Core.Logic.{inl, inr}
 use native.Mathlib.Omega.{arith}
 use Rattle.clock.specs.declared.reading.VirtualLocalTime.{VirtualLocalTime}
-use Rattle.clock.specs.declared.base.Held.{Held}
-use Rattle.clock.specs.declared.base.Held.TheVariants.{Unset, Set}
 use Rattle.settings.specs.declared.domain_settings.Role.{Role}
 use Rattle.settings.specs.declared.domain_settings.Role.TheVariants.{Absent, Slave, Master}
 use Rattle.domain.specs.declared.Domain.{Domain}
-use Rattle.domain.specs.declared.Pairing.{Pairing}
-use Rattle.domain.specs.declared.Pairing.TheVariants.{Waiting, Open as open_pair}
 use Rattle.domain.specs.declared.LastSync.{LastSync}
 use Rattle.domain.specs.declared.LastSync.TheVariants.{Unknown, Seen}
 use Rattle.domain.specs.declared.Sending.{Sending}
 use Rattle.domain.specs.declared.Sending.TheVariants.{Never, Open, Confirmed}
 use Rattle.node_laws.specs.Good.{HeldWithin, LastWithin, PairWithin, SentWithin, RoleGood, RecordGood}
+use Rattle.clock.specs.declared.base.TimeBase.{TimeBase}
+use Rattle.domain.specs.declared.Pair.{Pair}
 
 module _ (kept kept' : VirtualLocalTime) (le : kept.0 ≤ kept'.0) where
-  held_later : (most : ℕ) (b : Held) → HeldWithin most kept b → HeldWithin most kept' b
-  held_later most Unset h = h
-  held_later most (Set b) h = (h.0, h.1, omega arith)
+  held_later : (most : ℕ) (b : Option TimeBase) → HeldWithin most kept b → HeldWithin most kept' b
+  held_later most None h = h
+  held_later most (Some b) h = (h.0, h.1, omega arith)
 
   last_later : (h : ℕ) (last : LastSync) → LastWithin kept h last → LastWithin kept' h last
   last_later h Unknown w = w
   last_later h (Seen counter row at) w = (w.0, w.1, omega arith)
 
   pair_later :
-      (f h : ℕ) (last : LastSync) (p : Pairing) → PairWithin kept f h last p → PairWithin kept' f h last p
-  pair_later f h last Waiting w = tt
-  pair_later f h last (open_pair p) (whole, inl own) = (whole, inl own)
-  pair_later f h last (open_pair p) (whole, inr old) = (whole, inr (omega (arith, old)))
+      (f h : ℕ) (last : LastSync) (p : Option Pair) → PairWithin kept f h last p → PairWithin kept' f h last p
+  pair_later f h last None w = tt
+  pair_later f h last (Some p) (whole, inl own) = (whole, inl own)
+  pair_later f h last (Some p) (whole, inr old) = (whole, inr (omega (arith, old)))
 
-  sent_later : (b : Held) (next : ℕ) (s : Sending) → SentWithin kept b next s → SentWithin kept' b next s
+  sent_later : (b : Option TimeBase) (next : ℕ) (s : Sending) → SentWithin kept b next s → SentWithin kept' b next s
   sent_later b next Never h = h
   sent_later b next (Open counter seconds nanoseconds at) (set, c, n, s, ns, a) = (set, c, n, s, ns, omega arith)
   sent_later b next (Confirmed at) (set, n, a) = (set, n, omega arith)

@@ -7,6 +7,7 @@
 --   own_domain            a domain's answers depend on its record and the kept reading alone
 --   own_after             and so do its record and the kept reading after the call
 -- Assumes nothing.
+use Rattle.std.specs.Prelude.{Option}
 use Prim.Native.Nat.{ℕ, zero, suc, ◌%◌, ◌<◌}
 use mathlib.Core.Path.{◌≡◌, refl, sym, ap, ◌∙◌}
 use mathlib.Core.Bool.{Bool, true, false, false≢true}
@@ -16,13 +17,12 @@ use lib.ListN.{length, set as put}
 use lib.Seq.{get_or-set_same, get_or-set_other, set-get_or}
 use borrow.Author.Tests.{eqb-true, eqb-false}
 use Rattle.settings.specs.Node.{places}
-use Rattle.refusal.specs.Numbers.{StateStays}
+use Rattle.refusal.specs.Numbers.{StateStays, Outcome, outcome_number}
 use Rattle.round.specs.Turn.{next_place}
 use Rattle.promise.proofs.Tests.{either}
 use Rattle.clock.specs.declared.reading.VirtualLocalTime.{VirtualLocalTime}
 use Rattle.admission.specs.Reading.{is_good_reading}
 use Rattle.domain.specs.declared.Domain.{Domain}
-use Rattle.master_rules.specs.declared.due.Due.{Due}
 use Rattle.master_rules.specs.Due.{is_master}
 use Rattle.master_rules.proofs.Laws.{by_due}
 use Rattle.master_send.specs.Send.{send_as, send_of}
@@ -30,10 +30,9 @@ use Rattle.domain.specs.Records.{record_at}
 use Rattle.round.specs.Turn.{turn_of, next_after}
 use Rattle.round.specs.Round.{sent_after, goes}
 use Rattle.node.specs.declared.Node.{Node}
-use Rattle.node.specs.declared.cycles.NodeCycle.{NodeCycle}
 use Rattle.node.specs.Store.{stored_in}
 use Rattle.node.specs.Frame.{addressed_by}
-use Rattle.node.specs.CycleAnswer.{cycle_number, cycle_count}
+use Rattle.node.specs.CycleAnswer.{cycle_count}
 use Rattle.node.specs.Cycle.{is_room_for, node_cycle_of, cycle_bytes}
 use Rattle.node_call.specs.Calls.{
   Call,
@@ -52,6 +51,8 @@ use Rattle.node_call.specs.Calls.{
 use Rattle.node_laws.specs.Refused.{IsRefused}
 use Rattle.node_laws.specs.Apart.{Elsewhere, Own}
 use Rattle.node_laws.proofs.Keeps.{refusal_keeps_frame_call, refusal_keeps_set_call, refusal_keeps_confirm_call}
+use Rattle.master_rules.specs.declared.due.Due.{Due}
+use Rattle.node.specs.declared.NodeStep.{NodeStep}
 
 -- ---- a refused call
 
@@ -66,9 +67,9 @@ stored_same n at e =
       round = n.round;
     }
 
-abbrev CycleKeeps : Node → VirtualLocalTime → List ℕ → NodeCycle → Type 0
+abbrev CycleKeeps : Node → VirtualLocalTime → List ℕ → NodeStep (Outcome ℕ) → Type 0
 CycleKeeps n t out r =
-    (cycle_number r.answer ≡ 0 → ⊥) →
+    (outcome_number r.answer ≡ 0 → ⊥) →
     (r.node ≡ n) × (cycle_bytes r.answer n t out ≡ out) × (cycle_count r.answer ≡ 0)
 
 cycle_keeps : (n : Node) (t : VirtualLocalTime) (out : List ℕ) → CycleKeeps n t out (node_cycle_of n t (length out))
@@ -112,7 +113,7 @@ read_keeps n domain t = refl
 -- who is no master does not send
 no_master : (d : Domain) (t : VirtualLocalTime) → is_master d.settings.role ≡ false → (send_of d t).domain ≡ d
 no_master d t e =
-    by_due (λ (due : Due). (send_as due d t).domain ≡ d) d.settings.role d.settings.period d.base d.sending
+    by_due (λ (due : Option Due). (send_as due d t).domain ≡ d) d.settings.role d.settings.period d.base d.sending
     t refl
     (λ b told. absurd (false≢true (sym e ∙ ap is_master told.master)))
 
@@ -157,8 +158,8 @@ other_domains n (frame t bytes) i e = get_or-set_other n.domains (addressed_by b
 other_domains n (read domain t) i e = refl
 other_domains n (set domain t s ns) i e = get_or-set_other n.domains (domain % places) i _ _ e
 other_domains n (cycle t out) i e =
-    either (λ (r : NodeCycle). record_at r.node.domains i ≡ record_at n.domains i) (is_good_reading n.kept t)
-    (either (λ (r : NodeCycle). record_at r.node.domains i ≡ record_at n.domains i) (is_room_for n (length out))
+    either (λ (r : NodeStep (Outcome ℕ)). record_at r.node.domains i ≡ record_at n.domains i) (is_good_reading n.kept t)
+    (either (λ (r : NodeStep (Outcome ℕ)). record_at r.node.domains i ≡ record_at n.domains i) (is_room_for n (length out))
     (goes_leaves places (n.round % places) 0 n.syncs_per_cycle t n.domains n.round i e) refl)
     refl
 other_domains n (confirm domain t counter out) i e = get_or-set_other n.domains (domain % places) i _ _ e

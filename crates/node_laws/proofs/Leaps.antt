@@ -3,6 +3,7 @@
 --   leap_shows     after a leap and fewer than `count` updates within both thresholds its bit shows
 --   leap_goes      and after `count` of them or more none does
 -- Assumes nothing.
+use Rattle.std.specs.Prelude.{Err, None, Ok, Option, Some}
 use Prim.Native.Nat.{ℕ, zero, suc, ◌+◌, ◌*◌, ◌<◌}
 use mathlib.Core.Path.{◌≡◌, refl, sym, ap, subst, ◌∙◌}
 use mathlib.Core.List.{List, [], ◌∷◌, ◌++◌}
@@ -15,25 +16,16 @@ use lib.Seq.{get_or-set_same, get_or-set_other}
 use Rattle.promise.proofs.Tests.{either, either_told}
 use Rattle.clock.specs.declared.reading.VirtualLocalTime.{VirtualLocalTime}
 use Rattle.clock.specs.declared.base.TimeBase.{TimeBase}
-use Rattle.clock.specs.declared.base.Held.{Held}
-use Rattle.clock.specs.declared.base.Held.TheVariants.{Unset, Set}
 use Rattle.frame.specs.declared.values.Sync.{Sync}
 use Rattle.frame.specs.declared.values.Fup.{Fup}
 use Rattle.frame.specs.declared.values.Frame.{Frame}
 use Rattle.frame.specs.declared.values.Frame.TheVariants.{Sync as sync, Fup as fup}
 use Rattle.frame_check.specs.Check.{is_taken}
-use Rattle.admission.specs.declared.frames.FrameAdmission.{FrameAdmission}
-use Rattle.admission.specs.declared.frames.FrameAdmission.TheVariants.{Admitted, Refused}
 use Rattle.admission.specs.FrameAdmission.{frame_admitted}
 use Rattle.settings.specs.declared.domain_settings.DomainSettings.{DomainSettings}
 use Rattle.domain.specs.declared.Domain.{Domain}
-use Rattle.domain.specs.declared.Leap.{Leap}
-use Rattle.domain.specs.declared.Leap.TheVariants.{None, Future, Past}
 use Rattle.domain.specs.Records.{record_at}
-use Rattle.slave_pair.specs.declared.joining.Joined.{Joined}
-use Rattle.slave_pair.specs.declared.joining.Joined.TheVariants.{With, Refused as not_joined}
 use Rattle.slave_pair.specs.Join.{joined_of}
-use Rattle.slave_answer.specs.declared.FrameStep.{FrameStep}
 use Rattle.slave_update.specs.Row.{leap_of, with_run}
 use Rattle.slave_update.specs.Update.{new_base}
 use Rattle.slave_update.proofs.Leaps.{leap_stays, leap_clears}
@@ -68,22 +60,28 @@ use Rattle.node_laws.proofs.Stays.{
   base_stays,
   settings_stay,
 }
+use Rattle.domain.specs.declared.DomainStep.{DomainStep}
+use Rattle.domain.specs.declared.Leap.{Leap}
+use Rattle.domain.specs.declared.Leap.TheVariants.{Future, Past}
+use Rattle.domain.specs.declared.Pair.{Pair}
+use Rattle.refusal.specs.Numbers.{Outcome}
+use Rattle.slave_answer.specs.declared.Taken.{Taken}
 
 -- ---- a frame on one record
 
 module _ (d : Domain) (kept t : VirtualLocalTime) (set : BaseSet d.base) where
-  abbrev Moved : FrameStep → Type 0
+  abbrev Moved : DomainStep (Outcome Taken) → Type 0
   Moved s = s.domain.leap ≡ leap_by d.settings d.leap (moves_of s.answer)
 
   update_moves :
-      (b : Held) (new : TimeBase) → BaseSet b → let u = update_in d b new in
-      u.leap ≡ leap_by d.settings d.leap (moves_of u.answer)
-  update_moves Unset new h = absurd h
-  update_moves (Set old) new h = refl
+      (b : Option TimeBase) (new : TimeBase) → BaseSet b → let u = update_in d b new in
+      u.leap ≡ leap_by d.settings d.leap (moves_of (Ok u.answer))
+  update_moves None new h = absurd h
+  update_moves (Some old) new h = refl
 
-  fup_moves : (j : Joined) (f : Fup) → Moved (fup_as j d f)
-  fup_moves (not_joined refusal) f = refl
-  fup_moves (With p) f = update_moves d.base (new_base p f) set
+  fup_moves : (j : Outcome Pair) (f : Fup) → Moved (fup_as j d f)
+  fup_moves (Err refusal) f = refl
+  fup_moves (Ok p) f = update_moves d.base (new_base p f) set
 
   sync_moves : (c : RowCheck) (s : Sync) → Moved (sync_as c d t s)
   sync_moves (NotGood row) s = refl
@@ -95,10 +93,10 @@ module _ (d : Domain) (kept t : VirtualLocalTime) (set : BaseSet d.base) where
   kind_moves (fup f) = fup_moves (joined_of d.settings.follow_up_time d.pairing t f) f
 
   call_moves :
-      (a : FrameAdmission) (bytes : List ℕ) → let r = frame_call_as a d kept t bytes in
+      (a : Outcome Frame) (bytes : List ℕ) → let r = frame_call_as a d kept t bytes in
       r.domain.leap ≡ leap_by d.settings d.leap (moves_of r.answer)
-  call_moves (Refused refusal) bytes = refl
-  call_moves (Admitted values) bytes =
+  call_moves (Err refusal) bytes = refl
+  call_moves (Ok values) bytes =
       either Moved (is_taken d.settings.mode d.settings.ids bytes) (kind_moves values) refl
 
 -- ---- a record stored at its place; one with a base is among the records
@@ -156,7 +154,7 @@ one_follows n (confirm domain t counter out) i h =
     confirm_call_keeps LeapStays no_master_leaps n domain t counter out i
 
 in_two :
-    (s : DomainSettings) (leap : Leap) (first later : List ℤ) →
+    (s : DomainSettings) (leap : Option Leap) (first later : List ℤ) →
     leap_by s leap (first ++ later) ≡ leap_by s (leap_by s leap first) later
 in_two s leap [] later = refl
 in_two s leap (d ∷ first) later = in_two s (leap_by s leap (d ∷ [])) first later
@@ -169,15 +167,15 @@ leap_follows n i (c ∷ rest) h =
     let moves = moves_in i next rest in
     leap_follows next i rest (base_stays n c i h)
     ∙ ap (λ (s : DomainSettings). leap_by s (record_at next.domains i).leap moves) (settings_stay n c i)
-    ∙ ap (λ (l : Leap). leap_by d.settings l moves) (one_follows n c i h)
+    ∙ ap (λ (l : Option Leap). leap_by d.settings l moves) (one_follows n c i h)
     ∙ sym (in_two d.settings d.leap (moves_by i n c) moves)
 
 -- ---- how long a leap shows
 
-run_unseen : (leap : Leap) (run : ℕ) → leap_bits (with_run leap run) ≡ leap_bits leap
+run_unseen : (leap : Option Leap) (run : ℕ) → leap_bits (with_run leap run) ≡ leap_bits leap
 run_unseen None run = refl
-run_unseen (Future other) run = refl
-run_unseen (Past other) run = refl
+run_unseen (Some (Future other)) run = refl
+run_unseen (Some (Past other)) run = refl
 
 module _ (n : Node) (i : ℕ) (cs : List Call) (before row : List ℤ) (d : ℤ) (l : Leapt n i cs before row d) where
   abbrev own : Domain

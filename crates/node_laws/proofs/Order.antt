@@ -8,6 +8,7 @@
 --   new_order        `new`
 --   order            any call
 -- Assumes nothing.
+use Rattle.std.specs.Prelude.{None, Ok, Option, Result, Some}
 use Prim.Native.Nat.{ℕ, ◌+◌, ◌%◌}
 use mathlib.Core.Path.{◌≡◌, refl}
 use mathlib.Core.Bool.{Bool, true, false, not, cond}
@@ -15,11 +16,7 @@ use mathlib.Core.List.{List}
 use lib.Dec.{leb, ltb, eqb}
 use lib.ListN.{length, get_or}
 use Rattle.clock.specs.declared.reading.VirtualLocalTime.{VirtualLocalTime}
-use Rattle.clock.specs.declared.base.Held.{Held}
-use Rattle.clock.specs.declared.base.Held.TheVariants.{Unset, Set}
 use Rattle.clock.specs.Time.{is_nanoseconds}
-use Rattle.frame.specs.declared.types.FrameType.{FrameType}
-use Rattle.frame.specs.declared.types.FrameType.TheVariants.{PlainSync, SecuredSync, PlainFup, SecuredFup, Unknown}
 use Rattle.frame.specs.declared.values.Protection.TheVariants.{Plain, Secured}
 use Rattle.frame.specs.declared.values.Sync.{Sync}
 use Rattle.frame.specs.declared.values.Fup.{Fup}
@@ -27,27 +24,20 @@ use Rattle.frame.specs.declared.values.Frame.{Frame}
 use Rattle.frame.specs.declared.values.Frame.TheVariants.{Sync as sync, Fup as fup}
 use Rattle.frame.specs.Types.{type_of}
 use Rattle.frame.specs.Values.{domain_in}
-use Rattle.frame_read.specs.declared.Read.{Read}
-use Rattle.frame_read.specs.declared.Read.TheVariants.{Values}
 use Rattle.frame_read.specs.Read.{named_domain, sync_in, fup_in, values_of}
 use Rattle.frame_check.specs.Check.{is_taken}
 use Rattle.settings.specs.declared.node_settings.NodeSettings.{NodeSettings}
 use Rattle.settings.specs.Ranges.{within}
-use Rattle.settings.specs.Node.{places, all_good, verdict_number}
+use Rattle.settings.specs.Node.{places, all_good}
 use Rattle.admission.specs.declared.Needed.TheVariants.{Slave, Master, Either}
-use Rattle.admission.specs.declared.frames.FrameAdmission.{FrameAdmission}
 use Rattle.admission.specs.Reading.{is_good_reading}
 use Rattle.admission.specs.Admission.{is_for}
 use Rattle.admission.specs.FrameAdmission.{read_for}
 use Rattle.domain.specs.declared.Domain.{Domain}
 use Rattle.domain.specs.declared.Pair.{Pair}
-use Rattle.domain.specs.declared.Pairing.{Pairing}
-use Rattle.domain.specs.declared.Pairing.TheVariants.{Waiting, Open as open_pair}
 use Rattle.domain.specs.declared.Sending.{Sending}
 use Rattle.domain.specs.declared.Sending.TheVariants.{Never, Open, Confirmed}
 use Rattle.domain.specs.Records.{record_at}
-use Rattle.slave_answer.specs.declared.FrameStep.{FrameStep}
-use Rattle.slave_answer.specs.Answer.{frame_number}
 use Rattle.slave_counter.specs.declared.CounterVerdict.{CounterVerdict}
 use Rattle.slave_counter.specs.declared.CounterVerdict.TheVariants.{Free, Good, NotGood}
 use Rattle.slave_counter.specs.Row.{row_of, checked_of}
@@ -78,6 +68,13 @@ use Rattle.node_laws.specs.Tests.{
   new_tests,
   tests_of,
 }
+use Rattle.clock.specs.declared.base.TimeBase.{TimeBase}
+use Rattle.domain.specs.declared.DomainStep.{DomainStep}
+use Rattle.frame.specs.declared.types.FrameType.{FrameType}
+use Rattle.frame.specs.declared.types.FrameType.TheVariants.{PlainFup, PlainSync, SecuredFup, SecuredSync}
+use Rattle.frame_read.specs.declared.NoFrame.{NoFrame}
+use Rattle.refusal.specs.Numbers.{Outcome, outcome_number}
+use Rattle.slave_answer.specs.declared.Taken.{Taken}
 
 -- ---- one test: where it is met the later ones are asked, else its number is given
 
@@ -98,19 +95,19 @@ told false p q = q refl
 
 module _ (d : Domain) (kept t : VirtualLocalTime) (bytes : List ℕ) where
   taken_zero :
-      (base : Held) (p : Pair) (f : Fup) →
-      frame_number (taken_by (update_in d base (new_base p f)) d p f).answer ≡ 0
-  taken_zero Unset p f = refl
-  taken_zero (Set b) p f = refl
+      (base : Option TimeBase) (p : Pair) (f : Fup) →
+      outcome_number (taken_by (update_in d base (new_base p f)) d p f).answer ≡ 0
+  taken_zero None p f = refl
+  taken_zero (Some b) p f = refl
 
-  abbrev step_number : FrameStep → ℕ
-  step_number s = frame_number s.answer
+  abbrev step_number : DomainStep (Outcome Taken) → ℕ
+  step_number s = outcome_number s.answer
 
   fup_order :
-      (f : Fup) (pairing : Pairing) → d.pairing ≡ pairing →
-      step_number (kind_of d t (fup f)) ≡ first_of (kind_tests (Values (fup f)) d t)
-  fup_order f Waiting e = simp e
-  fup_order f (open_pair p) e =
+      (f : Fup) (pairing : Option Pair) → d.pairing ≡ pairing →
+      step_number (kind_of d t (fup f)) ≡ first_of (kind_tests (Ok (fup f)) d t)
+  fup_order f None e = simp e
+  fup_order f (Some p) e =
       told (is_old d.settings.follow_up_time p t) (λ old. simp (e, old))
       (λ young. told (is_other p f) (λ other. simp (e, young, other))
       (λ same. told (is_above f) (λ above. simp (e, young, same, above))
@@ -126,37 +123,37 @@ module _ (d : Domain) (kept t : VirtualLocalTime) (bytes : List ℕ) where
       told (ltb (row_of d.last + 1) d.settings.hysteresis) (λ more. simp more) (λ none. simp none)
   check_order s NotGood = refl
 
-  pub kind_order : (values : Frame) → step_number (kind_of d t values) ≡ first_of (kind_tests (Values values) d t)
+  pub kind_order : (values : Frame) → step_number (kind_of d t values) ≡ first_of (kind_tests (Ok values) d t)
   kind_order (sync s) = check_order s (verdict_for d t s)
   kind_order (fup f) = fup_order f d.pairing refl
 
-  abbrev admission_number : FrameAdmission → ℕ
-  admission_number a = frame_number (frame_call_as a d kept t bytes).answer
+  abbrev admission_number : Outcome Frame → ℕ
+  admission_number a = outcome_number (frame_call_as a d kept t bytes).answer
 
-  abbrev read_number_of : Read → ℕ
+  abbrev read_number_of : Result Frame NoFrame → ℕ
   read_number_of r = admission_number (read_for r d.number d.settings.role)
 
   values_order :
       (values : Frame) →
-      read_number_of (Values values)
+      read_number_of (Ok values)
       ≡ cond (not_for d (domain_in values) Slave) 4
-      (cond (not (is_taken d.settings.mode d.settings.ids bytes)) 5 (first_of (kind_tests (Values values) d t)))
+      (cond (not (is_taken d.settings.mode d.settings.ids bytes)) 5 (first_of (kind_tests (Ok values) d t)))
   values_order values =
       met admission_number (is_for d.number d.settings.role (domain_in values) Slave)
       (met step_number (is_taken d.settings.mode d.settings.ids bytes) (kind_order values) refl) refl
 
   type_order :
-      (type : FrameType) →
+      (type : Option FrameType) →
       read_number_of (values_of type bytes)
       ≡ cond (no_type type) 3
       (cond (not_for d (named_domain bytes) Slave) 4
       (cond (not (is_taken d.settings.mode d.settings.ids bytes)) 5
       (first_of (kind_tests (values_of type bytes) d t))))
-  type_order PlainSync = values_order (sync (sync_in bytes (Plain (get_or bytes 1 0))))
-  type_order SecuredSync = values_order (sync (sync_in bytes Secured))
-  type_order PlainFup = values_order (fup (fup_in bytes (Plain (get_or bytes 1 0))))
-  type_order SecuredFup = values_order (fup (fup_in bytes Secured))
-  type_order Unknown = refl
+  type_order (Some PlainSync) = values_order (sync (sync_in bytes (Plain (get_or bytes 1 0))))
+  type_order (Some SecuredSync) = values_order (sync (sync_in bytes Secured))
+  type_order (Some PlainFup) = values_order (fup (fup_in bytes (Plain (get_or bytes 1 0))))
+  type_order (Some SecuredFup) = values_order (fup (fup_in bytes Secured))
+  type_order None = refl
 
 pub frame_order :
     (n : Node) (t : VirtualLocalTime) (bytes : List ℕ) →
@@ -184,9 +181,9 @@ read_order n domain t =
 
     held :
         is_good_reading n.kept t ≡ true → is_for d.number d.settings.role domain Either ≡ true →
-        (base : Held) → d.base ≡ base → number_in (answer_to n (read domain t)) ≡ first_of (read_tests n domain t)
-    held good for Unset e = simp (good, for, e)
-    held good for (Set b) e = simp (good, for, e)
+        (base : Option TimeBase) → d.base ≡ base → number_in (answer_to n (read domain t)) ≡ first_of (read_tests n domain t)
+    held good for None e = simp (good, for, e)
+    held good for (Some b) e = simp (good, for, e)
 
 -- ---- a set
 
@@ -239,7 +236,7 @@ confirm_order n domain t counter out =
 
 -- ---- `new`
 
-pub new_order : (s : NodeSettings) → verdict_number (new_of s).verdict ≡ first_of (new_tests s)
+pub new_order : (s : NodeSettings) → outcome_number (new_of s).answer ≡ first_of (new_tests s)
 new_order s =
     told (within 1 16 s.syncs_per_cycle)
     (λ one. told (all_good s.domains) (λ all. simp (one, all)) (λ some. simp (one, some)))

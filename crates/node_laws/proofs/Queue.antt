@@ -5,37 +5,36 @@
 --   pair_taken      P1 and P2 of the paper in one queue are taken, with 0 and 0 in a buffer of three
 --   pair_held       and the slave holds their time
 -- Assumes nothing.
+use Rattle.std.specs.Prelude.{Err, Ok, Some, ⊤}
 use Prim.Native.Nat.{ℕ, zero, suc, ◌*◌}
 use mathlib.Core.Path.{◌≡◌, refl, sym, ap, subst, ◌∙◌}
 use mathlib.Core.Bool.{Bool, true, false, not, cond, ◌&&◌}
 use mathlib.Core.List.{List, [], ◌∷◌, ◌++◌}
 use lib.Dec.{leb, eqb}
 use lib.ListN.{length, take, drop, replicate}
-use Rattle.clock.specs.declared.base.Held.TheVariants.{Set}
 use Rattle.refusal.specs.declared.Refusal.TheVariants.{Length, NoRoom}
 use Rattle.frame_laws.specs.RoundTrip.{AreBytes}
 use Rattle.domain.specs.Records.{record_at}
 use Rattle.node.specs.declared.Node.{Node}
 use Rattle.node.specs.New.{new_of}
-use Rattle.node_queue.specs.declared.QueueAnswer.{QueueAnswer}
-use Rattle.node_queue.specs.declared.QueueAnswer.TheVariants.{Taken, Refused}
 use Rattle.node_queue.specs.declared.NodeQueue.{NodeQueue}
-use Rattle.node_queue.specs.Queue.{queue_calls, queue_number, queue_node, queue_bytes, QueuedIn}
+use Rattle.node_queue.specs.Queue.{queue_calls, queue_node, queue_bytes, QueuedIn}
 use Rattle.bench_settings.specs.Bench.{bench_with}
 use Rattle.node_laws.specs.Reachable.{AreCalls, Reachable}
 use Rattle.node_laws.specs.Tests.{first_of, queue_tests}
 use Rattle.node_laws.proofs.Witness.{reaches}
+use Rattle.refusal.specs.Numbers.{Outcome, outcome_number}
 
 pub queue_order :
     (n : Node) (ts fs before : List ℕ) (r : NodeQueue) (after : List ℕ) → QueuedIn n ts fs before r after →
-    queue_number r.answer ≡ first_of (queue_tests ts fs before)
+    outcome_number r.answer ≡ first_of (queue_tests ts fs before)
 queue_order n ts fs before r after q =
-    ap queue_number q.answer
+    ap outcome_number q.answer
     ∙ by (leb (length ts) (length before)) (leb (length ts) 32) (eqb (length fs) (8 * length ts))
   where
     by :
         (room most eight : Bool) →
-        queue_number (cond room (cond (most && eight) Taken (Refused Length)) (Refused NoRoom))
+        outcome_number {A = ⊤} (cond room (cond (most && eight) (Ok tt) (Err Length)) (Err NoRoom))
         ≡ first_of ((12, not room) ∷ (2, not most) ∷ (2, not eight) ∷ [])
     by true true true = refl
     by true true false = refl
@@ -61,9 +60,9 @@ pub queue_reached :
     QueuedIn n ts fs before r after → Reachable r.node
 queue_reached n reached ts fs before are r after q = subst Reachable (sym q.node) (by r.answer)
   where
-    by : (a : QueueAnswer) → Reachable (queue_node a n ts fs)
-    by Taken = reaches n reached (queue_calls ts fs) (queue_calls_lem ts fs are)
-    by (Refused refusal) = reached
+    by : (a : Outcome ⊤) → Reachable (queue_node a n ts fs)
+    by (Ok tt) = reaches n reached (queue_calls ts fs) (queue_calls_lem ts fs are)
+    by (Err refusal) = reached
 
 -- ---- P1 and P2 in one
 
@@ -80,14 +79,14 @@ frames =
 
 pub pair_taken :
     (r : NodeQueue) (after : List ℕ) → QueuedIn bench readings frames (replicate 3 0xA5) r after →
-    (r.answer ≡ Taken) × (after ≡ 0 ∷ 0 ∷ 0xA5 ∷ [])
+    (r.answer ≡ Ok tt) × (after ≡ 0 ∷ 0 ∷ 0xA5 ∷ [])
 pair_taken r after q =
-    (q.answer, q.bytes ∙ ap (λ (a : QueueAnswer). queue_bytes a bench readings frames (replicate 3 0xA5)) q.answer)
+    (q.answer, q.bytes ∙ ap (λ (a : Outcome ⊤). queue_bytes a bench readings frames (replicate 3 0xA5)) q.answer)
 
 pub pair_held :
     (r : NodeQueue) (after : List ℕ) → QueuedIn bench readings frames (replicate 3 0xA5) r after →
     (record_at r.node.domains 1).base
-    ≡ Set (record { time = record { 0 = 3600; 1 = 100 }; at = record { 0 = 5000000000 } })
+    ≡ Some (record { time = record { 0 = 3600; 1 = 100 }; at = record { 0 = 5000000000 } })
 pair_held r after q =
     ap (λ (n : Node). (record_at n.domains 1).base)
-    (q.node ∙ ap (λ (a : QueueAnswer). queue_node a bench readings frames) q.answer)
+    (q.node ∙ ap (λ (a : Outcome ⊤). queue_node a bench readings frames) q.answer)

@@ -11,6 +11,7 @@
 --   sync_back        demand 2: each frame of a main cycle is read back as the values sent
 --   fup_back         and so is the FUP of a confirmation
 -- Assumes nothing.
+use Rattle.std.specs.Prelude.{Ok, Some}
 use Prim.Native.Nat.{ℕ, ◌%◌, ◌≤◌, ◌<◌}
 use mathlib.Core.Path.{◌≡◌}
 use mathlib.Core.Bool.{true}
@@ -22,14 +23,11 @@ use Rattle.frame.specs.declared.values.Fup.{Fup}
 use Rattle.promise.proofs.Tests.{either, either_told}
 use Rattle.clock.specs.declared.reading.VirtualLocalTime.{VirtualLocalTime}
 use Rattle.clock.specs.declared.base.TimeBase.{TimeBase}
-use Rattle.clock.specs.declared.base.Held.TheVariants.{Set}
 use Rattle.clock.specs.Base.{time_at}
 use Rattle.admission.specs.Reading.{is_good_reading}
 use Rattle.domain.specs.declared.Domain.{Domain}
 use Rattle.domain.specs.Records.{record_at}
-use Rattle.master_confirm.specs.declared.ConfirmAnswer.TheVariants.{Followed}
 use Rattle.node.specs.declared.Node.{Node}
-use Rattle.node.specs.declared.cycles.NodeCycle.{NodeCycle}
 use Rattle.node.specs.Store.{stored_in}
 use Rattle.node.specs.Frame.{addressed_by}
 use Rattle.node.specs.Read.{node_read_of}
@@ -56,6 +54,8 @@ use Rattle.node_laws.proofs.Bounds.{
   follow_exact,
   time_exact_here,
 }
+use Rattle.node.specs.declared.NodeStep.{NodeStep}
+use Rattle.refusal.specs.Numbers.{Outcome}
 
 all_good_lem : (n : Node) → Good n → AllGood n.kept n.domains
 all_good_lem n g = record { sixteen = g.sixteen; records = g.records }
@@ -96,8 +96,8 @@ cycled n t g e =
 
 cycle_good : (n : Node) (t : VirtualLocalTime) (length : ℕ) → Good n → Good (node_cycle_of n t length).node
 cycle_good n t length g =
-    either_told (λ (r : NodeCycle). Good r.node) (is_good_reading n.kept t)
-    (λ e. either (λ (r : NodeCycle). Good r.node) (is_room_for n length) (cycled n t g e) g)
+    either_told (λ (r : NodeStep (Outcome ℕ)). Good r.node) (is_good_reading n.kept t)
+    (λ e. either (λ (r : NodeStep (Outcome ℕ)). Good r.node) (is_room_for n length) (cycled n t g e) g)
     (λ e. g)
 
 -- ---- a call
@@ -148,14 +148,14 @@ module _ (n : Node) (r : Reachable n) where
         counter length
 
     pub fup_exact :
-        (f : Fup) → (node_confirm_of n domain t counter length).answer ≡ Followed f →
+        (f : Fup) → (node_confirm_of n domain t counter length).answer ≡ Ok f →
         Follows (record_at n.domains (domain % places)).sending counter t f
     fup_exact =
         follow_exact (domain % places) n.kept (record_at n.domains (domain % places)) (at domain) domain t
         counter length
 
   pub base_exact :
-      (i : ℕ) → i < places → (b : TimeBase) (t : VirtualLocalTime) → (record_at n.domains i).base ≡ Set b →
+      (i : ℕ) → i < places → (b : TimeBase) (t : VirtualLocalTime) → (record_at n.domains i).base ≡ Some b →
       n.kept.0 ≤ t.0 → t.0 ≤ 1000000000000000000 → TimeExact b.time b.at (time_at b t) t
   base_exact i h = time_exact_here i n.kept (record_at n.domains i) (record_good n r i h)
 

@@ -3,6 +3,7 @@
 --   fup_read_back    so is the FUP of a confirmation that is not refused
 --   good_sync_back, good_fup_back   both for a good node
 -- Assumes nothing.
+use Rattle.std.specs.Prelude.{Ok, Option, Some}
 use Prim.Native.Nat.{ℕ, ◌%◌, ◌<◌}
 use mathlib.Core.Path.{◌≡◌, refl, ap, ◌∙◌, subst}
 use mathlib.Core.List.{List}
@@ -22,13 +23,9 @@ use Rattle.frame_laws.specs.RoundTrip.{SyncFits, FupFits}
 use Rattle.frame_write.proofs.Laws.{bytes_length}
 use Rattle.frame_laws.proofs.Laws.{read_back}
 use Rattle.domain.specs.declared.Domain.{Domain}
-use Rattle.master_rules.specs.declared.due.Due.{Due}
 use Rattle.master_rules.proofs.Laws.{by_due}
 use Rattle.master_rules.specs.Sent.{protection_of}
-use Rattle.master_send.specs.declared.SendAnswer.TheVariants.{Sent}
 use Rattle.master_send.specs.Send.{send_as, send_of}
-use Rattle.master_confirm.specs.declared.ConfirmAnswer.{ConfirmAnswer}
-use Rattle.master_confirm.specs.declared.ConfirmAnswer.TheVariants.{Followed}
 use Rattle.call_confirm.specs.ConfirmCall.{confirm_call_of}
 use Rattle.domain.specs.Records.{record_at}
 use Rattle.round.specs.Round.{round_of}
@@ -41,6 +38,8 @@ use Rattle.node_laws.specs.Back.{SyncBack}
 use Rattle.node_laws.specs.Demands.{FupBack}
 use Rattle.node_laws.proofs.Cycles.{round_each}
 use Rattle.node_laws.proofs.Bounds.{by_followed, sent_within_lem, ovs_here}
+use Rattle.master_rules.specs.declared.due.Due.{Due}
+use Rattle.refusal.specs.Numbers.{Outcome}
 
 -- ---- a SYNC
 
@@ -55,9 +54,9 @@ sent_by d seconds =
     }
 
 sent_fits :
-    (d : Domain) (t : VirtualLocalTime) → d.number < places → (s : Sync) → (send_of d t).answer ≡ Sent s → SyncFits s
+    (d : Domain) (t : VirtualLocalTime) → d.number < places → (s : Sync) → (send_of d t).answer ≡ Some s → SyncFits s
 sent_fits d t h s =
-    by_due (λ (due : Due). (send_as due d t).answer ≡ Sent s → SyncFits s) d.settings.role d.settings.period
+    by_due (λ (due : Option Due). (send_as due d t).answer ≡ Some s → SyncFits s) d.settings.role d.settings.period
     d.base d.sending t (λ e. let no : ◌≡◌ {A = ℕ} 0 1 = cc in absurd (omega arith))
     (λ b told e.
     let same : sent_by d (time_at b t).0 ≡ s = cc in
@@ -82,7 +81,7 @@ sync_read_back ds first t most numbers =
 call_fits :
     (i : ℕ) (kept : VirtualLocalTime) (d : Domain) → RecordGood i kept d → i < places →
     (asked : ℕ) (t : VirtualLocalTime) (counter length : ℕ) (f : Fup) →
-    (confirm_call_of d kept asked t counter length).answer ≡ Followed f → FupFits f
+    (confirm_call_of d kept asked t counter length).answer ≡ Ok f → FupFits f
 call_fits i kept d g h asked t counter length =
     by_followed FupFits d kept t counter asked length
     (λ is le from at told. record {
@@ -99,7 +98,7 @@ pub fup_read_back :
 fup_read_back n domain t counter out g f e =
     let d = record_at n.domains (domain % places) in
     let bytes = bytes_of d.settings.ids (fup f) in
-    ap (λ (a : ConfirmAnswer). read_of (take 8 (confirmed_bytes a n domain out))) e
+    ap (λ (a : Outcome Fup). read_of (take 8 (confirmed_bytes a n domain out))) e
     ∙ ap read_of (take_at bytes (drop 8 out) 8 (bytes_length d.settings.ids (fup f)))
     ∙ read_back d.settings.ids (fup f)
     (call_fits (domain % places) n.kept d g (omega arith) domain t counter (length out) f e)

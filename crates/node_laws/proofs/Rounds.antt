@@ -8,6 +8,7 @@
 --   count_bound      it sends at most as many frames as it may
 --   count_sixteen    and at most sixteen
 -- Assumes nothing.
+use Rattle.std.specs.Prelude.{None, Option, Some}
 use Prim.Native.Nat.{ℕ, zero, suc, ◌+◌, ◌-◌, ◌%◌, ◌≤◌, ◌<◌}
 use mathlib.Core.Path.{◌≡◌, refl, ◌∙◌}
 use mathlib.Core.Bool.{Bool, true, false}
@@ -23,9 +24,6 @@ use Rattle.promise.proofs.Tests.{either, either_told}
 use Rattle.clock.specs.declared.reading.VirtualLocalTime.{VirtualLocalTime}
 use Rattle.frame.specs.declared.data_ids.DataIds.{DataIds}
 use Rattle.domain.specs.declared.Domain.{Domain}
-use Rattle.master_send.specs.declared.SendAnswer.{SendAnswer}
-use Rattle.master_send.specs.declared.SendAnswer.TheVariants.{Sent, NotDue}
-use Rattle.master_send.specs.declared.SendStep.{SendStep}
 use Rattle.master_send.specs.Send.{send_of}
 use Rattle.domain.specs.Records.{record_at}
 use Rattle.round.specs.Turn.{turn_of, next_after}
@@ -33,6 +31,8 @@ use Rattle.round.specs.Round.{frames_by, sent_after, goes, round_of}
 use Rattle.node_laws.specs.Good.{RecordGood}
 use Rattle.node_laws.proofs.Later.{later}
 use Rattle.node_laws.proofs.Master.{send_good}
+use Rattle.domain.specs.declared.DomainStep.{DomainStep}
+use Rattle.frame.specs.declared.values.Sync.{Sync}
 
 -- ---- sixteen good records
 
@@ -66,11 +66,11 @@ pub turn_good :
     (may : Bool) (i : ℕ) (t : VirtualLocalTime) (d : Domain) → RecordGood i t d →
     RecordGood i t (turn_of may d t).domain
 turn_good may i t d g =
-    either (λ (s : SendStep). RecordGood i t s.domain) may (send_good i t t d (omega arith) g) g
+    either (λ (s : DomainStep (Option Sync)). RecordGood i t s.domain) may (send_good i t t d (omega arith) g) g
 
-next_below : (a : SendAnswer) (at next : ℕ) → next < places → next_after a at next < places
-next_below (Sent s) at next h = omega arith
-next_below NotDue at next h = h
+next_below : (a : Option Sync) (at next : ℕ) → next < places → next_after a at next < places
+next_below (Some s) at next h = omega arith
+next_below None at next h = h
 
 pub goes_good :
     (turns at sent most : ℕ) (t : VirtualLocalTime) (ds : List Domain) (next : ℕ) → at < places → next < places →
@@ -90,10 +90,10 @@ abbrev Count : (sent most turns : ℕ) → List (List ℕ) → Type 0
 Count sent most turns frames = (length frames ≤ most - sent) × (length frames ≤ turns)
 
 one_more :
-    (a : SendAnswer) (sent most turns : ℕ) (ids : DataIds) (frames : List (List ℕ)) → sent < most →
+    (a : Option Sync) (sent most turns : ℕ) (ids : DataIds) (frames : List (List ℕ)) → sent < most →
     Count (sent_after a sent) most turns frames → Count sent most (suc turns) (frames_by a ids ++ frames)
-one_more (Sent s) sent most turns ids frames may h = (omega arith, omega arith)
-one_more NotDue sent most turns ids frames may h = (h.0, omega arith)
+one_more (Some s) sent most turns ids frames may h = (omega arith, omega arith)
+one_more None sent most turns ids frames may h = (h.0, omega arith)
 
 turn_count :
     (sent most turns : ℕ) (d : Domain) (t : VirtualLocalTime) (ids : DataIds) (frames : List (List ℕ)) →
@@ -103,7 +103,7 @@ turn_count sent most turns d t ids frames =
     either_told Counts (ltb sent most) (λ e. one_more (send_of d t).answer sent most turns ids frames (ltb-true _ _ e))
     (λ e h. (h.0, omega arith))
   where
-    Counts : SendStep → Type 0
+    Counts : DomainStep (Option Sync) → Type 0
     Counts s =
         Count (sent_after s.answer sent) most turns frames →
         Count sent most (suc turns) (frames_by s.answer ids ++ frames)

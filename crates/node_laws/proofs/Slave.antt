@@ -3,6 +3,7 @@
 --   frame_kept    which is no earlier than the one before, and in range if that one was
 --   pair_before   the pair of the last SYNC is no later than the reading kept
 -- Assumes nothing.
+use Rattle.std.specs.Prelude.{Err, None, Ok, Option, Result, Some}
 use Prim.Native.Nat.{ℕ, ◌+◌, ◌≤◌, ◌<◌}
 use mathlib.Core.Path.{◌≡◌, refl, sym, ap, subst}
 use mathlib.Core.Bool.{true, ◌&&◌}
@@ -17,26 +18,14 @@ use Rattle.promise.proofs.Tests.{either, either_told, both}
 use Rattle.clock.specs.declared.reading.VirtualLocalTime.{VirtualLocalTime}
 use Rattle.clock.specs.Reading.{span_of}
 use Rattle.clock.specs.declared.base.TimeBase.{TimeBase}
-use Rattle.clock.specs.declared.base.Held.{Held}
-use Rattle.clock.specs.declared.base.Held.TheVariants.{Unset, Set}
-use Rattle.frame.specs.declared.types.FrameType.{FrameType}
-use Rattle.frame.specs.declared.types.FrameType.TheVariants.{
-  PlainSync,
-  SecuredSync,
-  PlainFup,
-  SecuredFup,
-  Unknown as no_type,
-}
 use Rattle.frame.specs.declared.values.Sync.{Sync}
 use Rattle.frame.specs.declared.values.Fup.{Fup}
 use Rattle.frame.specs.declared.values.Frame.{Frame}
 use Rattle.frame.specs.declared.values.Frame.TheVariants.{Sync as sync, Fup as fup}
-use Rattle.frame_read.specs.declared.Read.{Read}
-use Rattle.frame_read.specs.declared.Read.TheVariants.{Values, LengthNot8, NoSuchType}
 use Rattle.frame.specs.Types.{type_of}
 use Rattle.frame_read.specs.Read.{word_of, values_of, read_of}
 use Rattle.frame_check.specs.Check.{is_taken}
-use Rattle.refusal.specs.Numbers.{number_of}
+use Rattle.refusal.specs.Numbers.{number_of, Outcome, outcome_number}
 use Rattle.frame_laws.specs.RoundTrip.{AreBytes}
 use Rattle.frame_laws.proofs.Laws.{byte_below}
 use Rattle.settings.specs.declared.domain_settings.Role.{Role}
@@ -44,8 +33,6 @@ use Rattle.settings.specs.declared.domain_settings.Role.TheVariants.{Slave}
 use Rattle.settings.specs.Ranges.{is_good_as}
 use Rattle.settings.proofs.ranges.Laws.{SlaveRange, slave_range}
 use Rattle.admission.specs.declared.Needed.TheVariants.{Slave as slave}
-use Rattle.admission.specs.declared.frames.FrameAdmission.{FrameAdmission}
-use Rattle.admission.specs.declared.frames.FrameAdmission.TheVariants.{Admitted, Refused}
 use Rattle.admission.specs.Reading.{is_good_reading}
 use Rattle.admission.specs.Admission.{is_in, is_for}
 use Rattle.admission.proofs.Laws.{good_reading, slave_admitted}
@@ -53,12 +40,8 @@ use Rattle.frame.specs.Values.{domain_in}
 use Rattle.admission.specs.FrameAdmission.{read_for, frame_admitted}
 use Rattle.domain.specs.declared.Domain.{Domain}
 use Rattle.domain.specs.declared.Pair.{Pair}
-use Rattle.domain.specs.declared.Pairing.{Pairing}
-use Rattle.domain.specs.declared.Pairing.TheVariants.{Waiting, Open}
 use Rattle.domain.specs.declared.LastSync.{LastSync}
 use Rattle.domain.specs.declared.LastSync.TheVariants.{Unknown, Seen}
-use Rattle.domain.specs.declared.Leap.{Leap}
-use Rattle.domain.specs.declared.Leap.TheVariants.{None, Future, Past}
 use Rattle.domain.specs.Fields.{with_pairing, with_last}
 use Rattle.slave_counter.specs.declared.CounterVerdict.{CounterVerdict}
 use Rattle.slave_counter.specs.declared.CounterVerdict.TheVariants.{Free}
@@ -76,15 +59,11 @@ use Rattle.slave_counter.proofs.Laws.{
   row_stays,
 }
 use Rattle.slave_pair.specs.Pair.{pair_of}
-use Rattle.slave_pair.specs.declared.joining.Joined.{Joined}
-use Rattle.slave_pair.specs.declared.joining.Joined.TheVariants.{With, Refused as not_joined}
-use Rattle.slave_answer.specs.Answer.{frame_number}
 use Rattle.slave_pair.specs.Join.{joined_of}
 use Rattle.slave_pair.proofs.Laws.{by_joined}
 use Rattle.slave_update.specs.Leap.{is_future, is_past, calmer}
 use Rattle.slave_update.specs.Update.{new_base, moved_by, update_of}
 use Rattle.slave_update.proofs.Laws.{update_taken}
-use Rattle.slave_answer.specs.declared.FrameStep.{FrameStep}
 use Rattle.slave_sync.specs.Sync.{verdict_for, check_for, with_sync, with_pair, sync_as, sync_of}
 use Rattle.slave_fup.specs.Fup.{updated_of, update_in, fup_as}
 use Rattle.slave_frame.specs.Step.{kind_of, frame_of}
@@ -103,6 +82,14 @@ use Rattle.node_laws.specs.Good.{
   RecordGood,
 }
 use Rattle.node_laws.proofs.Later.{later, Grows, kept_stays}
+use Rattle.domain.specs.declared.DomainStep.{DomainStep}
+use Rattle.domain.specs.declared.Leap.{Leap}
+use Rattle.domain.specs.declared.Leap.TheVariants.{Future, Past}
+use Rattle.frame.specs.declared.types.FrameType.{FrameType}
+use Rattle.frame.specs.declared.types.FrameType.TheVariants.{PlainFup, PlainSync, SecuredFup, SecuredSync}
+use Rattle.frame_read.specs.declared.NoFrame.{NoFrame}
+use Rattle.frame_read.specs.declared.NoFrame.TheVariants.{LengthNot8, NoSuchType}
+use Rattle.slave_answer.specs.declared.Taken.{Taken}
 
 -- ---- what the bytes of a frame carry
 
@@ -114,34 +101,34 @@ abbrev Carried : Frame → Type 0
 Carried (sync s) = (s.counter < counters) × (s.seconds < 4294967296)
 Carried (fup f) = f.ovs ≤ 3
 
-abbrev ReadCarried : Read → Type 0
-ReadCarried LengthNot8 = Unit {0}
-ReadCarried NoSuchType = Unit {0}
-ReadCarried (Values values) = Carried values
+abbrev ReadCarried : Result Frame NoFrame → Type 0
+ReadCarried (Err LengthNot8) = Unit {0}
+ReadCarried (Err NoSuchType) = Unit {0}
+ReadCarried (Ok values) = Carried values
 
-values_carried : (type : FrameType) (bytes : List ℕ) → AreBytes bytes → ReadCarried (values_of type bytes)
-values_carried PlainSync bytes h = (omega arith, word_below bytes h)
-values_carried SecuredSync bytes h = (omega arith, word_below bytes h)
-values_carried PlainFup bytes h = omega arith
-values_carried SecuredFup bytes h = omega arith
-values_carried no_type bytes h = tt
+values_carried : (type : Option FrameType) (bytes : List ℕ) → AreBytes bytes → ReadCarried (values_of type bytes)
+values_carried (Some PlainSync) bytes h = (omega arith, word_below bytes h)
+values_carried (Some SecuredSync) bytes h = (omega arith, word_below bytes h)
+values_carried (Some PlainFup) bytes h = omega arith
+values_carried (Some SecuredFup) bytes h = omega arith
+values_carried None bytes h = tt
 
 read_carried : (bytes : List ℕ) → AreBytes bytes → ReadCarried (read_of bytes)
 read_carried bytes h = either ReadCarried (eqb (length bytes) 8) (values_carried (type_of (get_or bytes 0 0)) bytes h) tt
 
 -- ---- what an admitted frame is: a slave's, at a good reading
 
-abbrev AdmittedWith : (Frame → Type 0) → FrameAdmission → Type 0
-AdmittedWith P (Refused refusal) = Unit {0}
-AdmittedWith P (Admitted values) = P values
+abbrev AdmittedWith : (Frame → Type 0) → Outcome Frame → Type 0
+AdmittedWith P (Err refusal) = Unit {0}
+AdmittedWith P (Ok values) = P values
 
 abbrev ForSlave : Role → Frame → Type 0
 ForSlave role values = (role ≡ Slave) × Carried values
 
-read_for_lem : (r : Read) (own : ℕ) (role : Role) → ReadCarried r → AdmittedWith (ForSlave role) (read_for r own role)
-read_for_lem LengthNot8 own role h = tt
-read_for_lem NoSuchType own role h = tt
-read_for_lem (Values values) own role h =
+read_for_lem : (r : Result Frame NoFrame) (own : ℕ) (role : Role) → ReadCarried r → AdmittedWith (ForSlave role) (read_for r own role)
+read_for_lem (Err LengthNot8) own role h = tt
+read_for_lem (Err NoSuchType) own role h = tt
+read_for_lem (Ok values) own role h =
     either_told (AdmittedWith (ForSlave role)) (is_for own role (domain_in values) slave)
     (λ e. (slave_admitted role (both (eqb (domain_in values) own) (is_in role slave) e).1, h)) (λ e. tt)
 
@@ -149,9 +136,9 @@ module _ (kept t : VirtualLocalTime) where
   abbrev Onward : Type 0
   Onward = (kept.0 ≤ t.0) × (t.0 ≤ 1000000000000000000)
 
-  always : {P : Type 0} (a : FrameAdmission) → P → AdmittedWith (λ values. P) a
-  always (Refused refusal) p = tt
-  always (Admitted values) p = p
+  always : {P : Type 0} (a : Outcome Frame) → P → AdmittedWith (λ values. P) a
+  always (Err refusal) p = tt
+  always (Ok values) p = p
 
   admitted_onward :
       (own : ℕ) (role : Role) (bytes : List ℕ) →
@@ -170,21 +157,21 @@ module _ (kept t : VirtualLocalTime) where
 -- ---- SYNC: the base is before it
 
 base_before :
-    (counter row : ℕ) (t : VirtualLocalTime) (most : ℕ) (b : Held) → HeldWithin most t b →
+    (counter row : ℕ) (t : VirtualLocalTime) (most : ℕ) (b : Option TimeBase) → HeldWithin most t b →
     BaseBefore (Seen counter row t) b
-base_before counter row t most Unset w = tt
-base_before counter row t most (Set b) w = w.2
+base_before counter row t most None w = tt
+base_before counter row t most (Some b) w = w.2
 
 base_first :
-    (t : VirtualLocalTime) (s : Sync) (most : ℕ) (b : Held) → HeldWithin most t b → BaseFirst (Open (pair_of t s)) b
-base_first t s most Unset w = tt
-base_first t s most (Set b) w = w.2
+    (t : VirtualLocalTime) (s : Sync) (most : ℕ) (b : Option TimeBase) → HeldWithin most t b → BaseFirst (Some (pair_of t s)) b
+base_first t s most None w = tt
+base_first t s most (Some b) w = w.2
 
 blank_with :
-    (b : Held) (d : Domain) (pairing : Pairing) (last : LastSync) → Blank b d →
+    (b : Option TimeBase) (d : Domain) (pairing : Option Pair) (last : LastSync) → Blank b d →
     Blank b (with_last (with_pairing d pairing) last)
-blank_with Unset d pairing last w = w
-blank_with (Set b) d pairing last w = w
+blank_with None d pairing last w = w
+blank_with (Some b) d pairing last w = w
 
 -- its counter is not good: the row alone changes, and not that of the SYNC whose pair is open
 
@@ -203,16 +190,16 @@ own_refused h Unknown p own = own
 own_refused h (Seen counter row at) p own = (own.0, own.1, omega (arith, row_stays h row own.2, own.2))
 
 pair_refused :
-    (kept : VirtualLocalTime) (f h : ℕ) (last : LastSync) (p : Pairing) → PairWithin kept f h last p →
+    (kept : VirtualLocalTime) (f h : ℕ) (last : LastSync) (p : Option Pair) → PairWithin kept f h last p →
     PairWithin kept f h (with_row last (row_refused h (row_of last))) p
-pair_refused kept f h last Waiting w = tt
-pair_refused kept f h last (Open p) (whole, inl own) = (whole, inl (own_refused h last p own))
-pair_refused kept f h last (Open p) (whole, inr old) = (whole, inr old)
+pair_refused kept f h last None w = tt
+pair_refused kept f h last (Some p) (whole, inl own) = (whole, inl (own_refused h last p own))
+pair_refused kept f h last (Some p) (whole, inr old) = (whole, inr old)
 
-order_refused : (last : LastSync) (row : ℕ) (b : Held) → BaseBefore last b → BaseBefore (with_row last row) b
+order_refused : (last : LastSync) (row : ℕ) (b : Option TimeBase) → BaseBefore last b → BaseBefore (with_row last row) b
 order_refused Unknown row b w = w
-order_refused (Seen counter old at) row Unset w = tt
-order_refused (Seen counter old at) row (Set b) w = w
+order_refused (Seen counter old at) row None w = tt
+order_refused (Seen counter old at) row (Some b) w = w
 
 refused :
     (kept : VirtualLocalTime) (d : Domain) → SlaveGood kept d →
@@ -253,7 +240,7 @@ row_full h (Seen counter row at) p own = own.2
 
 -- what a SYNC that is the last leaves of the rest
 listened :
-    (d : Domain) (t : VirtualLocalTime) (s : Sync) (row : ℕ) (pairing : Pairing) → Carried (sync s) → SlaveGood t d →
+    (d : Domain) (t : VirtualLocalTime) (s : Sync) (row : ℕ) (pairing : Option Pair) → Carried (sync s) → SlaveGood t d →
     row ≤ d.settings.hysteresis →
     PairWithin t d.settings.follow_up_time d.settings.hysteresis (Seen s.counter row t) pairing →
     BaseFirst pairing d.base → SlaveGood t (with_sync (with_pairing d pairing) t s row)
@@ -272,9 +259,9 @@ listened d t s row pairing c g le pair first =
 
 -- ---- FUP
 
-abbrev JoinedWith : (h : ℕ) → LastSync → Fup → Joined → Type 0
-JoinedWith h last f (not_joined refusal) = Unit {0}
-JoinedWith h last f (With p) = (p.seconds < 4294967296) × OfLast h last p × (f.nanoseconds ≤ 999999999)
+abbrev JoinedWith : (h : ℕ) → LastSync → Fup → Outcome Pair → Type 0
+JoinedWith h last f (Err refusal) = Unit {0}
+JoinedWith h last f (Ok p) = (p.seconds < 4294967296) × OfLast h last p × (f.nanoseconds ≤ 999999999)
 
 own_pair :
     (t : VirtualLocalTime) (most h : ℕ) (last : LastSync) (p : Pair) → span_of p.at t ≤ most →
@@ -283,7 +270,7 @@ own_pair t most h last p young (inl own) = own
 own_pair t most h last p young (inr old) = absurd (omega (arith, young, old))
 
 joined :
-    (most h : ℕ) (last : LastSync) (pairing : Pairing) (t : VirtualLocalTime) (f : Fup) →
+    (most h : ℕ) (last : LastSync) (pairing : Option Pair) (t : VirtualLocalTime) (f : Fup) →
     PairWithin t most h last pairing → JoinedWith h last f (joined_of most pairing t f)
 joined most h last pairing t f within =
     by_joined (JoinedWith h last f) most pairing t f tt tt tt
@@ -298,30 +285,30 @@ pair_before t h Unknown p own w = absurd own
 pair_before t h (Seen counter row at) p own w = omega (arith, ap (λ (r : VirtualLocalTime). r.0) own.1, w.2)
 
 base_of_last :
-    (h : ℕ) (last : LastSync) (p : Pair) (f : Fup) → OfLast h last p → BaseBefore last (Set (new_base p f))
+    (h : ℕ) (last : LastSync) (p : Pair) (f : Fup) → OfLast h last p → BaseBefore last (Some (new_base p f))
 base_of_last h Unknown p f own = own
 base_of_last h (Seen counter row at) p f own = omega (arith, ap (λ (r : VirtualLocalTime). r.0) own.1)
 
 -- the leap after an update has a run below the count, whatever was held
 module _ (count : ℕ) (least : 1 ≤ count) where
-  calmer_below : (held : Leap) → RunBelow count (calmer count held)
+  calmer_below : (held : Option Leap) → RunBelow count (calmer count held)
   calmer_below None = tt
-  calmer_below (Future run) =
+  calmer_below (Some (Future run)) =
       either_told (RunBelow count) (ltb (run + 1) count) (λ e. ltb-true (run + 1) count e) (λ e. tt)
-  calmer_below (Past run) =
+  calmer_below (Some (Past run)) =
       either_told (RunBelow count) (ltb (run + 1) count) (λ e. ltb-true (run + 1) count e) (λ e. tt)
 
   update_below :
-      (future past : ℕ) (held : Leap) (b : Held) (new : TimeBase) →
+      (future past : ℕ) (held : Option Leap) (b : Option TimeBase) (new : TimeBase) →
       RunBelow count (update_of future past count held b new).leap
-  update_below future past held Unset new = tt
-  update_below future past held (Set old) new =
+  update_below future past held None new = tt
+  update_below future past held (Some old) new =
       either (RunBelow count) (is_future future (moved_by old new)) (omega arith)
       (either (RunBelow count) (is_past past (moved_by old new)) (omega arith) (calmer_below held))
 
-module _ (d : Domain) (t : VirtualLocalTime) (p : Pair) (f : Fup) (leap : Leap)
+module _ (d : Domain) (t : VirtualLocalTime) (p : Pair) (f : Fup) (leap : Option Leap)
     (below : RunBelow d.settings.clear_count leap)
-    (j : JoinedWith d.settings.hysteresis d.last f (With p)) where
+    (j : JoinedWith d.settings.hysteresis d.last f (Ok p)) where
   updated : f.ovs ≤ 3 → SlaveGood t d → SlaveGood t (updated_of d p f leap)
   updated o g =
       record {
@@ -339,8 +326,8 @@ module _ (d : Domain) (t : VirtualLocalTime) (p : Pair) (f : Fup) (leap : Leap)
 -- ---- the step
 
 module _ (i : ℕ) (kept t : VirtualLocalTime) (d : Domain) (g : RecordGood i kept d) where
-  abbrev StepGood : FrameStep → Type 0
-  StepGood s = RecordGood i (frame_kept (frame_number s.answer) kept t) s.domain
+  abbrev StepGood : DomainStep (Outcome Taken) → Type 0
+  StepGood s = RecordGood i (frame_kept (outcome_number s.answer) kept t) s.domain
 
   module _ (le : kept.0 ≤ t.0) (is : d.settings.role ≡ Slave) where
     abbrev at_t : RecordGood i t d
@@ -357,7 +344,7 @@ module _ (i : ℕ) (kept t : VirtualLocalTime) (d : Domain) (g : RecordGood i ke
 
     -- a record that differs in its pairing and its last SYNC
     heard_good :
-        (at : VirtualLocalTime) (pairing : Pairing) (last : LastSync) →
+        (at : VirtualLocalTime) (pairing : Option Pair) (last : LastSync) →
         SlaveGood at (with_last (with_pairing d pairing) last) → RecordGood i at (with_last (with_pairing d pairing) last)
     heard_good at pairing last w =
         record {
@@ -371,30 +358,30 @@ module _ (i : ℕ) (kept t : VirtualLocalTime) (d : Domain) (g : RecordGood i ke
 
     -- where the row is begun anew, a pair that is still open is older than F
     stale :
-        (s : Sync) → verdict_for d t s ≡ Free → (row : ℕ) (p : Pairing) →
+        (s : Sync) → verdict_for d t s ≡ Free → (row : ℕ) (p : Option Pair) →
         PairWithin t d.settings.follow_up_time d.settings.hysteresis d.last p →
         PairWithin t d.settings.follow_up_time d.settings.hysteresis (Seen s.counter row t) p
-    stale s free row Waiting w = tt
-    stale s free row (Open p) (whole, inr old) = (whole, inr old)
-    stale s free row (Open p) (whole, inl own) =
+    stale s free row None w = tt
+    stale s free row (Some p) (whole, inr old) = (whole, inr old)
+    stale s free row (Some p) (whole, inl own) =
         let lost = free_lost _ _ d.last s.counter t _ p own free in
         (whole, inr (omega (arith, lost, range.loss.0)))
 
     -- and so it is where the row goes on
     still_stale :
-        (s : Sync) → row_of d.last + 1 < d.settings.hysteresis → (row : ℕ) (p : Pairing) →
+        (s : Sync) → row_of d.last + 1 < d.settings.hysteresis → (row : ℕ) (p : Option Pair) →
         PairWithin t d.settings.follow_up_time d.settings.hysteresis d.last p →
         PairWithin t d.settings.follow_up_time d.settings.hysteresis (Seen s.counter row t) p
-    still_stale s lt row Waiting w = tt
-    still_stale s lt row (Open p) (whole, inr old) = (whole, inr old)
-    still_stale s lt row (Open p) (whole, inl own) =
+    still_stale s lt row None w = tt
+    still_stale s lt row (Some p) (whole, inr old) = (whole, inr old)
+    still_stale s lt row (Some p) (whole, inl own) =
         absurd (omega (arith, lt, row_full _ d.last p own))
 
     opens : (s : Sync) → Carried (sync s) → RecordGood i t (with_pair d t s d.settings.hysteresis)
     opens s c =
         let h = d.settings.hysteresis in
-        heard_good t (Open (pair_of t s)) (Seen s.counter h t)
-        (listened d t s h (Open (pair_of t s)) c as_slave (omega arith) (c.1, inl (refl, refl, omega arith))
+        heard_good t (Some (pair_of t s)) (Seen s.counter h t)
+        (listened d t s h (Some (pair_of t s)) c as_slave (omega arith) (c.1, inl (refl, refl, omega arith))
         (base_first t s _ d.base as_slave.base))
 
     joins_row :
@@ -423,8 +410,8 @@ module _ (i : ℕ) (kept t : VirtualLocalTime) (d : Domain) (g : RecordGood i ke
     count_least = range.leaps.count.0
 
     taken :
-        (p : Pair) (f : Fup) (leap : Leap) → RunBelow d.settings.clear_count leap → f.ovs ≤ 3 →
-        JoinedWith d.settings.hysteresis d.last f (With p) → RecordGood i t (updated_of d p f leap)
+        (p : Pair) (f : Fup) (leap : Option Leap) → RunBelow d.settings.clear_count leap → f.ovs ≤ 3 →
+        JoinedWith d.settings.hysteresis d.last f (Ok p) → RecordGood i t (updated_of d p f leap)
     taken p f leap below o j =
         record {
           number = g.number;
@@ -441,10 +428,10 @@ module _ (i : ℕ) (kept t : VirtualLocalTime) (d : Domain) (g : RecordGood i ke
         either P (eqb number 15) at_t (either P (eqb number 0) at_t g)
 
     fup_as_lem :
-        (j : Joined) (f : Fup) → f.ovs ≤ 3 → JoinedWith d.settings.hysteresis d.last f j →
+        (j : Outcome Pair) (f : Fup) → f.ovs ≤ 3 → JoinedWith d.settings.hysteresis d.last f j →
         StepGood (fup_as j d f)
-    fup_as_lem (not_joined refusal) f o h = kept_good (number_of refusal)
-    fup_as_lem (With p) f o h =
+    fup_as_lem (Err refusal) f o h = kept_good (number_of refusal)
+    fup_as_lem (Ok p) f o h =
         let u = update_in d d.base (new_base p f) in
         let below = update_below d.settings.clear_count count_least d.settings.future_threshold d.settings.past_threshold d.leap d.base (new_base p f) in
         subst (λ (n : ℕ). RecordGood i (frame_kept n kept t) (updated_of d p f u.leap))
@@ -464,11 +451,11 @@ module _ (i : ℕ) (kept t : VirtualLocalTime) (d : Domain) (g : RecordGood i ke
   -- ---- the call
 
   call_good :
-      (a : FrameAdmission) (bytes : List ℕ) → AdmittedWith (λ values. Onward kept t) a →
+      (a : Outcome Frame) (bytes : List ℕ) → AdmittedWith (λ values. Onward kept t) a →
       AdmittedWith (ForSlave d.settings.role) a →
       RecordGood i (frame_call_as a d kept t bytes).kept (frame_call_as a d kept t bytes).domain
-  call_good (Refused refusal) bytes o s = g
-  call_good (Admitted values) bytes o s = frame_step o.0 s.0 bytes values s.1
+  call_good (Err refusal) bytes o s = g
+  call_good (Ok values) bytes o s = frame_step o.0 s.0 bytes values s.1
 
 pub frame_good :
     (i : ℕ) (kept t : VirtualLocalTime) (bytes : List ℕ) (d : Domain) → AreBytes bytes → RecordGood i kept d →
@@ -482,11 +469,11 @@ frame_good i kept t bytes d h g =
 
 module _ (kept t : VirtualLocalTime) (bytes : List ℕ) (d : Domain) where
   call_kept :
-      (a : FrameAdmission) → AdmittedWith (λ values. Onward kept t) a →
+      (a : Outcome Frame) → AdmittedWith (λ values. Onward kept t) a →
       Grows kept (frame_call_as a d kept t bytes).kept
-  call_kept (Refused refusal) o = kept_stays kept
-  call_kept (Admitted values) o =
-      let number = frame_number (frame_of d t bytes values).answer in
+  call_kept (Err refusal) o = kept_stays kept
+  call_kept (Ok values) o =
+      let number = outcome_number (frame_of d t bytes values).answer in
       let on : Grows kept t = (o.0, λ h. o.1) in
       either (Grows kept) (eqb number 15) on (either (Grows kept) (eqb number 0) on (kept_stays kept))
 

@@ -6,6 +6,7 @@
 --   settings_stay   no call changes the settings in a record
 --   syncs_stay      nor S
 -- Assumes nothing.
+use Rattle.std.specs.Prelude.{Err, None, Ok, Option, Some, ⊤}
 use Prim.Native.Nat.{ℕ, zero, suc, ◌%◌}
 use mathlib.Core.Path.{◌≡◌, refl, ◌∙◌}
 use mathlib.Core.Bool.{Bool}
@@ -22,37 +23,23 @@ use Rattle.frame.specs.declared.values.Fup.{Fup}
 use Rattle.frame.specs.declared.values.Frame.{Frame}
 use Rattle.frame.specs.declared.values.Frame.TheVariants.{Sync as sync, Fup as fup}
 use Rattle.frame_check.specs.Check.{is_taken}
-use Rattle.admission.specs.declared.Admission.{Admission}
-use Rattle.admission.specs.declared.Admission.TheVariants.{Admitted, Refused}
 use Rattle.admission.specs.declared.Needed.TheVariants.{Master}
 use Rattle.admission.specs.Reading.{is_good_reading}
 use Rattle.admission.specs.Admission.{admitted_of}
-use Rattle.admission.specs.declared.frames.FrameAdmission.{FrameAdmission}
-use Rattle.admission.specs.declared.frames.FrameAdmission.TheVariants.{Admitted as admitted, Refused as refused}
 use Rattle.admission.specs.FrameAdmission.{frame_admitted}
 use Rattle.domain.specs.declared.Domain.{Domain}
 use Rattle.domain.specs.declared.Pair.{Pair}
 use Rattle.domain.specs.declared.LastSync.{LastSync}
-use Rattle.domain.specs.declared.Leap.{Leap}
 use Rattle.domain.specs.declared.Sending.TheVariants.{Confirmed}
 use Rattle.domain.specs.Fields.{with_last, with_sending}
-use Rattle.slave_pair.specs.declared.joining.Joined.{Joined}
-use Rattle.slave_pair.specs.declared.joining.Joined.TheVariants.{With, Refused as not_joined}
 use Rattle.slave_pair.specs.Join.{joined_of}
-use Rattle.slave_answer.specs.declared.FrameStep.{FrameStep}
 use Rattle.slave_counter.specs.declared.RowCheck.{RowCheck}
 use Rattle.slave_counter.specs.declared.RowCheck.TheVariants.{NotGood, Joins, Complete}
 use Rattle.slave_sync.specs.Sync.{check_for, with_pair, sync_as}
 use Rattle.slave_fup.specs.Fup.{updated_of, fup_as}
 use Rattle.slave_frame.specs.Step.{kind_of}
-use Rattle.master_rules.specs.declared.due.Due.{Due}
-use Rattle.master_rules.specs.declared.due.Due.TheVariants.{At, No}
-use Rattle.master_set.specs.declared.SetStep.{SetStep}
 use Rattle.master_set.specs.Set.{with_time}
-use Rattle.master_send.specs.declared.SendStep.{SendStep}
 use Rattle.master_send.specs.Send.{due_in, sent_of, send_as}
-use Rattle.master_follow.specs.declared.Follow.{Follow}
-use Rattle.master_follow.specs.declared.Follow.TheVariants.{With as following, Refused as not_following}
 use Rattle.master_follow.specs.Follow.{follow_of}
 use Rattle.master_confirm.specs.Confirm.{confirm_as}
 use Rattle.call_frame.specs.FrameCall.{frame_call_as}
@@ -63,11 +50,17 @@ use Rattle.round.specs.Round.{sent_after, goes}
 use Rattle.round.specs.Turn.{turn_of, next_after}
 use Rattle.node.specs.declared.Node.{Node}
 use Rattle.node.specs.Frame.{addressed_by}
-use Rattle.node.specs.declared.cycles.NodeCycle.{NodeCycle}
 use Rattle.node.specs.Cycle.{is_room_for}
 use Rattle.node_call.specs.Calls.{Call, frame, read, set, cycle, confirm, node_after, node_after_all}
 use Rattle.node_laws.specs.Good.{BaseStays}
 use Rattle.node_laws.specs.Apart.{SettingsStay}
+use Rattle.domain.specs.declared.DomainStep.{DomainStep}
+use Rattle.domain.specs.declared.Leap.{Leap}
+use Rattle.master_follow.specs.declared.Follow.{Follow}
+use Rattle.master_rules.specs.declared.due.Due.{Due}
+use Rattle.node.specs.declared.NodeStep.{NodeStep}
+use Rattle.refusal.specs.Numbers.{Outcome}
+use Rattle.slave_answer.specs.declared.Taken.{Taken}
 
 -- ---- A relation between a record before and after: what stays as it was keeps it, and so does each step: of a master
 -- a set, a SYNC sent, a confirmation; of a slave a SYNC accepted, one that is refused by 6 or 15, a FUP taken.
@@ -83,7 +76,7 @@ pub record Kept (R : (before after : Domain) → Type 0) : Type 0 where
   pub master : KeptByMaster R
   pub paired : (d : Domain) (t : VirtualLocalTime) (s : Sync) (row : ℕ) → R d (with_pair d t s row)
   pub heard : (d : Domain) (last : LastSync) → R d (with_last d last)
-  pub updated : (d : Domain) (p : Pair) (f : Fup) (leap : Leap) → R d (updated_of d p f leap)
+  pub updated : (d : Domain) (p : Pair) (f : Fup) (leap : Option Leap) → R d (updated_of d p f leap)
 
 module _ (R : (before after : Domain) → Type 0) (k : KeptByMaster R) where
   abbrev Keeps : Node → Call → (i : ℕ) → Type 0
@@ -92,29 +85,29 @@ module _ (R : (before after : Domain) → Type 0) (k : KeptByMaster R) where
   -- ---- a call on one record
 
   module _ (d : Domain) (kept t : VirtualLocalTime) where
-    set_keeps : (a : Admission) (s ns : ℕ) → R d (set_call_as a d kept t s ns).domain
-    set_keeps (Refused refusal) s ns = k.same d
-    set_keeps Admitted s ns =
-        either (λ (r : SetStep). R d r.domain) (leb ns 999999999) (k.timed d _ t) (k.same d)
+    set_keeps : (a : Outcome ⊤) (s ns : ℕ) → R d (set_call_as a d kept t s ns).domain
+    set_keeps (Err refusal) s ns = k.same d
+    set_keeps (Ok tt) s ns =
+        either (λ (r : DomainStep (Outcome ⊤)). R d r.domain) (leb ns 999999999) (k.timed d _ t) (k.same d)
 
-    followed_keeps : (f : Follow) (counter : ℕ) → R d (confirm_as f d counter).domain
-    followed_keeps (following ovs nanoseconds at) counter = k.confirmed d at
-    followed_keeps (not_following refusal) counter = k.same d
+    followed_keeps : (f : Outcome Follow) (counter : ℕ) → R d (confirm_as f d counter).domain
+    followed_keeps (Ok follow) counter = k.confirmed d follow.sent_at
+    followed_keeps (Err refusal) counter = k.same d
 
     confirm_keeps :
-        (a : Admission) (counter length : ℕ) → R d (confirm_call_as a d kept t counter length).domain
-    confirm_keeps (Refused refusal) counter length = k.same d
-    confirm_keeps Admitted counter length =
+        (a : Outcome ⊤) (counter length : ℕ) → R d (confirm_call_as a d kept t counter length).domain
+    confirm_keeps (Err refusal) counter length = k.same d
+    confirm_keeps (Ok tt) counter length =
         followed_keeps (follow_of d.settings.confirmation_time d.sending t counter (leb 8 length)) counter
 
   -- ---- a turn
 
-  send_keeps : (due : Due) (d : Domain) (t : VirtualLocalTime) → R d (send_as due d t).domain
-  send_keeps (At seconds nanoseconds) d t = k.sent d seconds nanoseconds t
-  send_keeps No d t = k.same d
+  send_keeps : (due : Option Due) (d : Domain) (t : VirtualLocalTime) → R d (send_as due d t).domain
+  send_keeps (Some due) d t = k.sent d due.seconds due.nanoseconds t
+  send_keeps None d t = k.same d
 
   turn_keeps : (may : Bool) (d : Domain) (t : VirtualLocalTime) → R d (turn_of may d t).domain
-  turn_keeps may d t = either (λ (r : SendStep). R d r.domain) may (send_keeps (due_in d t) d t) (k.same d)
+  turn_keeps may d t = either (λ (r : DomainStep (Option Sync)). R d r.domain) may (send_keeps (due_in d t) d t) (k.same d)
 
   -- ---- a record stored at a place; beyond the records, nothing is
 
@@ -151,7 +144,7 @@ module _ (R : (before after : Domain) → Type 0) (k : KeptByMaster R) where
 
   pub cycle_call_keeps : (n : Node) (t : VirtualLocalTime) (out : List ℕ) (i : ℕ) → Keeps n (cycle t out) i
   cycle_call_keeps n t out i =
-      let P : NodeCycle → Type 0 = λ r. R (record_at n.domains i) (record_at r.node.domains i) in
+      let P : NodeStep (Outcome ℕ) → Type 0 = λ r. R (record_at n.domains i) (record_at r.node.domains i) in
       either P (is_good_reading n.kept t)
       (either P (is_room_for n (length out))
       (goes_keeps places (n.round % places) 0 n.syncs_per_cycle t n.domains n.round i) (k.same _))
@@ -172,9 +165,9 @@ module _ (R : (before after : Domain) → Type 0) (k : Kept R) where
     abbrev still : R d d
     still = k.master.same d
 
-    fup_keeps : (j : Joined) (f : Fup) → R d (fup_as j d f).domain
-    fup_keeps (not_joined refusal) f = still
-    fup_keeps (With p) f = k.updated d p f _
+    fup_keeps : (j : Outcome Pair) (f : Fup) → R d (fup_as j d f).domain
+    fup_keeps (Err refusal) f = still
+    fup_keeps (Ok p) f = k.updated d p f _
 
     sync_keeps : (c : RowCheck) (s : Sync) → R d (sync_as c d t s).domain
     sync_keeps (NotGood row) s = k.heard d _
@@ -185,10 +178,10 @@ module _ (R : (before after : Domain) → Type 0) (k : Kept R) where
     kind_keeps (sync s) = sync_keeps (check_for d t s) s
     kind_keeps (fup f) = fup_keeps (joined_of d.settings.follow_up_time d.pairing t f) f
 
-    frame_keeps : (a : FrameAdmission) (bytes : List ℕ) → R d (frame_call_as a d kept t bytes).domain
-    frame_keeps (refused refusal) bytes = still
-    frame_keeps (admitted values) bytes =
-        either (λ (r : FrameStep). R d r.domain) (is_taken d.settings.mode d.settings.ids bytes)
+    frame_keeps : (a : Outcome Frame) (bytes : List ℕ) → R d (frame_call_as a d kept t bytes).domain
+    frame_keeps (Err refusal) bytes = still
+    frame_keeps (Ok values) bytes =
+        either (λ (r : DomainStep (Outcome Taken)). R d r.domain) (is_taken d.settings.mode d.settings.ids bytes)
         (kind_keeps values) still
 
   pub call_keeps : (n : Node) (c : Call) (i : ℕ) → R (record_at n.domains i) (record_at (node_after n c).domains i)
@@ -257,6 +250,6 @@ syncs_stay n (frame t bytes) = refl
 syncs_stay n (read domain t) = refl
 syncs_stay n (set domain t s ns) = refl
 syncs_stay n (cycle t out) =
-    let P : NodeCycle → Type 0 = λ r. r.node.syncs_per_cycle ≡ n.syncs_per_cycle in
+    let P : NodeStep (Outcome ℕ) → Type 0 = λ r. r.node.syncs_per_cycle ≡ n.syncs_per_cycle in
     either P (is_good_reading n.kept t) (either P (is_room_for n (length out)) refl refl) refl
 syncs_stay n (confirm domain t counter out) = refl

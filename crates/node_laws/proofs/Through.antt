@@ -4,6 +4,7 @@
 --   save_number_one   so that calls for other domains, however many, change a domain's answer through number 1 alone
 --   cycle_own         a main cycle leaves each record as it was, or as its own SYNC makes it
 -- Assumes nothing.
+use Rattle.std.specs.Prelude.{Err, Ok, ⊤}
 use Prim.Native.Nat.{ℕ, ◌%◌}
 use mathlib.Core.Path.{◌≡◌, refl, ap, ◌∙◌}
 use mathlib.Core.Logic.{inl, inr}
@@ -15,23 +16,13 @@ use Rattle.clock.specs.declared.reading.VirtualLocalTime.{VirtualLocalTime}
 use Rattle.frame_read.specs.Read.{read_of}
 use Rattle.refusal.specs.declared.Refusal.TheVariants.{NoRoom, Domain as not_for_lem}
 use Rattle.settings.specs.Node.{places}
-use Rattle.admission.specs.declared.Admission.{Admission}
-use Rattle.admission.specs.declared.Admission.TheVariants.{Admitted, Refused}
-use Rattle.admission.specs.declared.frames.FrameAdmission.{FrameAdmission}
-use Rattle.admission.specs.declared.frames.FrameAdmission.TheVariants.{Admitted as admitted, Refused as refused}
 use Rattle.admission.specs.declared.Needed.TheVariants.{Master}
 use Rattle.admission.specs.Reading.{is_good_reading}
 use Rattle.admission.specs.Admission.{is_for}
 use Rattle.admission.specs.FrameAdmission.{read_for}
 use Rattle.domain.specs.declared.Domain.{Domain}
 use Rattle.domain.specs.Records.{record_at}
-use Rattle.slave_answer.specs.declared.FrameAnswer.{FrameAnswer}
-use Rattle.slave_answer.specs.Answer.{frame_number}
-use Rattle.master_set.specs.declared.SetAnswer.{SetAnswer}
-use Rattle.master_set.specs.Set.{set_number}
 use Rattle.master_send.specs.Send.{send_of}
-use Rattle.master_confirm.specs.declared.ConfirmAnswer.{ConfirmAnswer}
-use Rattle.master_confirm.specs.Confirm.{confirm_number}
 use Rattle.call_frame.specs.FrameCall.{frame_call_as}
 use Rattle.call_set.specs.SetCall.{set_call_as}
 use Rattle.call_confirm.specs.ConfirmCall.{confirm_call_as}
@@ -39,9 +30,8 @@ use Rattle.round.specs.FirstDue.{served_of}
 use Rattle.round.proofs.Places.{among}
 use Rattle.round.proofs.FirstDue.{first_due}
 use Rattle.node.specs.declared.Node.{Node}
-use Rattle.node.specs.declared.cycles.NodeCycle.{NodeCycle}
 use Rattle.node.specs.Frame.{addressed_by}
-use Rattle.node.specs.CycleAnswer.{cycle_number, cycle_count}
+use Rattle.node.specs.CycleAnswer.{cycle_count}
 use Rattle.node.specs.Cycle.{is_room_for, gone_from, cycled_by, cycle_refused, cycle_bytes}
 use Rattle.node.specs.Confirm.{confirmed_bytes}
 use Rattle.node_call.specs.Calls.{
@@ -62,33 +52,38 @@ use Rattle.node_call.specs.Calls.{
 }
 use Rattle.node_laws.specs.Apart.{Own, AllElsewhere, keeping, Timely, OwnSent}
 use Rattle.node_laws.proofs.Independent.{independent}
+use Rattle.frame.specs.declared.values.Frame.{Frame}
+use Rattle.frame.specs.declared.values.Fup.{Fup}
+use Rattle.node.specs.declared.NodeStep.{NodeStep}
+use Rattle.refusal.specs.Numbers.{Outcome, outcome_number}
+use Rattle.slave_answer.specs.declared.Taken.{Taken}
 
 -- ---- an admitted call does not look at the kept reading
 
 module _ (d : Domain) (k l t : VirtualLocalTime) where
   frame_same :
-      (a : FrameAdmission) (bytes : List ℕ) →
+      (a : Outcome Frame) (bytes : List ℕ) →
       (frame_call_as a d k t bytes).answer ≡ (frame_call_as a d l t bytes).answer
-  frame_same (refused refusal) bytes = refl
-  frame_same (admitted values) bytes = refl
+  frame_same (Err refusal) bytes = refl
+  frame_same (Ok values) bytes = refl
 
   set_same :
-      (a : Admission) (seconds nanoseconds : ℕ) →
+      (a : Outcome ⊤) (seconds nanoseconds : ℕ) →
       (set_call_as a d k t seconds nanoseconds).answer ≡ (set_call_as a d l t seconds nanoseconds).answer
-  set_same (Refused refusal) seconds nanoseconds = refl
-  set_same Admitted seconds nanoseconds = refl
+  set_same (Err refusal) seconds nanoseconds = refl
+  set_same (Ok tt) seconds nanoseconds = refl
 
   confirm_same :
-      (a : Admission) (counter length : ℕ) →
+      (a : Outcome ⊤) (counter length : ℕ) →
       (confirm_call_as a d k t counter length).answer ≡ (confirm_call_as a d l t counter length).answer
-  confirm_same (Refused refusal) counter length = refl
-  confirm_same Admitted counter length = refl
+  confirm_same (Err refusal) counter length = refl
+  confirm_same (Ok tt) counter length = refl
 
 module _ (n : Node) (k t : VirtualLocalTime) (out : List ℕ) where
-  abbrev cycle_told : Node → NodeCycle → Answer
-  cycle_told m r = sends (cycle_number r.answer) (cycle_count r.answer) (cycle_bytes r.answer m t out)
+  abbrev cycle_told : Node → NodeStep (Outcome ℕ) → Answer
+  cycle_told m r = sends (outcome_number r.answer) (cycle_count r.answer) (cycle_bytes r.answer m t out)
 
-  abbrev gone : Node → NodeCycle
+  abbrev gone : Node → NodeStep (Outcome ℕ)
   gone m = cycled_by m t (gone_from m t)
 
   cycle_same :
@@ -101,8 +96,8 @@ module _ (n : Node) (k t : VirtualLocalTime) (out : List ℕ) where
 -- ---- a call
 
 -- a master's domain, asked for
-abbrev pub for_master : Domain → (asked : ℕ) → Admission
-for_master d asked = cond (is_for d.number d.settings.role asked Master) Admitted (Refused not_for_lem)
+abbrev pub for_master : Domain → (asked : ℕ) → Outcome ⊤
+for_master d asked = cond (is_for d.number d.settings.role asked Master) (Ok tt) (Err not_for_lem)
 
 same_answer :
     (n : Node) (k : VirtualLocalTime) (c : Call) → is_good_reading n.kept (reading_of c) ≡ true →
@@ -111,16 +106,16 @@ same_answer n k (frame t bytes) p q =
     let d = record_at n.domains (addressed_by bytes) in
     let admission = read_for (read_of bytes) d.number d.settings.role in
     rw (p, q)
-    (ap (λ (a : FrameAnswer). numbered (frame_number a)) (frame_same d k n.kept t admission bytes))
+    (ap (λ (a : Outcome Taken). numbered (outcome_number a)) (frame_same d k n.kept t admission bytes))
 same_answer n k (read domain t) p q = rw (p, q) refl
 same_answer n k (set domain t s ns) p q =
     let d = record_at n.domains (domain % places) in
     rw (p, q)
-    (ap (λ (a : SetAnswer). numbered (set_number a)) (set_same d k n.kept t (for_master d domain) s ns))
+    (ap (λ (a : Outcome ⊤). numbered (outcome_number a)) (set_same d k n.kept t (for_master d domain) s ns))
 same_answer n k (cycle t out) p q = rw (p, q) (cycle_same n k t out (is_room_for n (length out)))
 same_answer n k (confirm domain t counter out) p q =
     let d = record_at n.domains (domain % places) in
-    let told : ConfirmAnswer → Answer = λ a. follows (confirm_number a) (confirmed_bytes a n domain out) in
+    let told : Outcome Fup → Answer = λ a. follows (outcome_number a) (confirmed_bytes a n domain out) in
     rw (p, q) (ap told (confirm_same d k n.kept t (for_master d domain) counter (length out)))
 
 pub through_one :
@@ -141,7 +136,7 @@ pub cycle_own :
     (n : Node) (t : VirtualLocalTime) (out : List ℕ) (i : ℕ) → length n.domains ≡ places →
     OwnSent (record_at n.domains i) t (record_at (node_after n (cycle t out)).domains i)
 cycle_own n t out i size =
-    let P : NodeCycle → Type 0 = λ r. OwnSent (record_at n.domains i) t (record_at r.node.domains i) in
+    let P : NodeStep (Outcome ℕ) → Type 0 = λ r. OwnSent (record_at n.domains i) t (record_at r.node.domains i) in
     let served = served_of n.domains n.round t n.syncs_per_cycle in
     let told = first_due n.domains n.round t n.syncs_per_cycle size in
     either P (is_good_reading n.kept t)

@@ -10,6 +10,7 @@
 --   slow_reached   a master with C 3 s has sent a SYNC of 999,999,999 ns
 --   ovs_three      whose FUP, confirmed 3 s later, has OVS 3
 -- Assumes nothing.
+use Rattle.std.specs.Prelude.{Ok, Some}
 use Prim.Native.Nat.{ℕ}
 use mathlib.Core.Path.{◌≡◌, refl}
 use mathlib.Core.Bool.{Bool, true, false, ◌&&◌}
@@ -18,14 +19,12 @@ use lib.Dec.{ltb}
 use lib.ListN.{replicate}
 use borrow.Author.Tests.{ltb-true}
 use Rattle.promise.proofs.Tests.{both}
-use Rattle.clock.specs.declared.base.Held.TheVariants.{Set}
 use Rattle.frame.specs.declared.values.Protection.TheVariants.{Plain as plain}
 use Rattle.settings.specs.declared.domain_settings.Role.TheVariants.{Slave}
 use Rattle.settings.specs.declared.domain_settings.Security.TheVariants.{Plain}
 use Rattle.settings.specs.declared.node_settings.NodeSettings.{NodeSettings}
 use Rattle.settings.specs.Domain.{absent_held, as_master}
 use Rattle.domain.specs.Records.{record_at}
-use Rattle.master_confirm.specs.declared.ConfirmAnswer.TheVariants.{Followed}
 use Rattle.round.specs.Round.{goes}
 use Rattle.node.specs.declared.Node.{Node}
 use Rattle.node.specs.New.{new_of}
@@ -84,7 +83,7 @@ bench_slave = refl
 
 pub bench_held :
     (record_at bench.domains 1).base
-    ≡ Set (record { time = record { 0 = 3600; 1 = 100 }; at = record { 0 = 5000000000 } })
+    ≡ Some (record { time = record { 0 = 3600; 1 = 100 }; at = record { 0 = 5000000000 } })
 unfolding goes
 bench_held = refl
 
@@ -110,7 +109,7 @@ slow_reached = reaches _ (new slow_settings refl) slow_calls (are_calls_lem slow
 
 pub ovs_three :
     (node_confirm_of slow 0 (record { 0 = 3000000000 }) 0 8).answer
-    ≡ Followed
+    ≡ Ok
     (record { domain = 0; counter = 0; sgw = false; ovs = 3; nanoseconds = 999999999; protection = plain 0 })
 unfolding goes
 ovs_three = refl

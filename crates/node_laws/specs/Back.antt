@@ -1,20 +1,18 @@
 -- Paper 01: the frames that a node writes and those that it accepts, and demand 2 for them: "What a master writes is
 -- read back as the same values, and an accepted frame with a right check byte, if it has one, and zero reserved bits is
 -- written back from its values byte for byte." Assumes nothing.
-use Rattle.std.specs.Prelude.{ℕ, ◌<◌, ◌≡◌, true, List, [], ◌∷◌, ◌++◌, length, get_or}
+use Rattle.std.specs.Prelude.{ℕ, ◌<◌, ◌≡◌, true, List, [], ◌∷◌, ◌++◌, length, get_or, Ok, Some}
 use Rattle.clock.specs.declared.reading.VirtualLocalTime.{VirtualLocalTime}
 use Rattle.frame.specs.declared.data_ids.DataIds.{DataIds}
 use Rattle.frame.specs.declared.values.Sync.{Sync}
 use Rattle.frame.specs.declared.values.Frame.{Frame}
 use Rattle.frame.specs.declared.values.Frame.TheVariants.{Sync as sync}
 use Rattle.frame.specs.Types.{type_of}
-use Rattle.frame_read.specs.declared.Read.TheVariants.{Values}
 use Rattle.frame_read.specs.Read.{read_of}
 use Rattle.frame_write.specs.Write.{bytes_of}
 use Rattle.frame_laws.specs.RoundTrip.{AreBytes, zero_reserved, right_if_secured}
 use Rattle.settings.specs.Node.{places}
 use Rattle.domain.specs.declared.Domain.{Domain}
-use Rattle.master_send.specs.declared.SendAnswer.TheVariants.{Sent}
 use Rattle.master_send.specs.Send.{send_of}
 use Rattle.domain.specs.Records.{record_at}
 use Rattle.node.specs.declared.Node.{Node}
@@ -33,20 +31,20 @@ IsEight frame = length frame ≡ 8
 pub record SyncBack (ds : List Domain) (t : VirtualLocalTime) (frame : List ℕ) : Type 0 where
   pub place : ℕ
   pub values : Sync
-  pub sent : (send_of (record_at ds place) t).answer ≡ Sent values
+  pub sent : (send_of (record_at ds place) t).answer ≡ Some values
   pub bytes : frame ≡ bytes_of (record_at ds place).settings.ids (sync values)
-  pub back : read_of frame ≡ Values (sync values)
+  pub back : read_of frame ≡ Ok (sync values)
 
 -- ---- what holds of the frame that a record sends, if it sends one
 abbrev pub OfSent : (List ℕ → Type 0) → VirtualLocalTime → List Domain → Type 0
 OfSent P t ds =
-    (i : ℕ) → i < places → (values : Sync) → (send_of (record_at ds i) t).answer ≡ Sent values →
+    (i : ℕ) → i < places → (values : Sync) → (send_of (record_at ds i) t).answer ≡ Some values →
     P (bytes_of (record_at ds i).settings.ids (sync values))
 
 -- ---- bytes that read as values, and are written back from them by their domain's Data-IDs
 pub record FrameBack (ids : DataIds) (bytes : List ℕ) : Type 0 where
   pub values : Frame
-  pub read : read_of bytes ≡ Values values
+  pub read : read_of bytes ≡ Ok values
   pub back :
       zero_reserved (type_of (get_or bytes 0 0)) bytes ≡ true →
       right_if_secured (type_of (get_or bytes 0 0)) ids bytes ≡ true →

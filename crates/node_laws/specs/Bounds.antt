@@ -1,33 +1,29 @@
 -- Paper 01: what the ranges of the settings and of the arguments leave of the times and numbers of a node. Assumes
 -- nothing.
-use Rattle.std.specs.Prelude.{ℕ, ◌+◌, ◌≤◌, ◌≡◌}
+use Rattle.std.specs.Prelude.{ℕ, ◌+◌, ◌≤◌, ◌≡◌, Ok, Some}
 use Rattle.clock.specs.declared.reading.VirtualLocalTime.{VirtualLocalTime}
 use Rattle.clock.specs.declared.time.GlobalTime.{GlobalTime}
 use Rattle.clock.specs.declared.base.TimeBase.{TimeBase}
-use Rattle.clock.specs.declared.base.Held.TheVariants.{Set}
 use Rattle.clock.specs.Time.{most_nanoseconds, nanoseconds_of, most_received, most_read, Within}
 use Rattle.frame.specs.declared.values.Fup.{Fup}
 use Rattle.settings.specs.declared.domain_settings.Role.TheVariants.{Slave}
 use Rattle.domain.specs.declared.Domain.{Domain}
 use Rattle.domain.specs.declared.Sending.{Sending}
 use Rattle.domain.specs.declared.Sending.TheVariants.{Open}
-use Rattle.master_confirm.specs.declared.ConfirmAnswer.{ConfirmAnswer}
-use Rattle.master_confirm.specs.declared.ConfirmAnswer.TheVariants.{Followed}
 use Rattle.call_read.specs.declared.Shown.{Shown}
-use Rattle.call_read.specs.declared.ReadAnswer.{ReadAnswer}
-use Rattle.call_read.specs.declared.ReadAnswer.TheVariants.{Time}
+use Rattle.refusal.specs.Numbers.{Outcome}
 
 -- ---- "A received time is at most 4,294,967,298 seconds, and a read time at most 5,294,967,298 seconds plus the
 -- nanoseconds": what a slave holds, and what a read shows.
 abbrev pub HoldsReceived : Domain → Type 0
-HoldsReceived d = d.settings.role ≡ Slave → (b : TimeBase) → d.base ≡ Set b → Within most_received b.time
+HoldsReceived d = d.settings.role ≡ Slave → (b : TimeBase) → d.base ≡ Some b → Within most_received b.time
 
-abbrev pub ShowsRead : ReadAnswer → Type 0
-ShowsRead answer = (shown : Shown) → answer ≡ Time shown → Within most_read shown.time
+abbrev pub ShowsRead : Outcome Shown → Type 0
+ShowsRead answer = (shown : Shown) → answer ≡ Ok shown → Within most_read shown.time
 
 -- ---- "bits 1-0 OVS": a FUP's OVS has two bits.
-abbrev pub OvsMost : ConfirmAnswer → Type 0
-OvsMost answer = (f : Fup) → answer ≡ Followed f → f.ovs ≤ 3
+abbrev pub OvsMost : Outcome Fup → Type 0
+OvsMost answer = (f : Fup) → answer ≡ Ok f → f.ovs ≤ 3
 
 -- ---- "that global time plus t minus that reading, exactly": g is `from`, true at `at`, carried on to t
 abbrev pub TimeExact : (from : GlobalTime) (at : VirtualLocalTime) (g : GlobalTime) (t : VirtualLocalTime) → Type 0

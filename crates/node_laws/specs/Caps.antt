@@ -1,13 +1,11 @@
 -- The definitions of the calls are total: a span that is never below 0, a counter taken modulo 16, a D held at its
 -- ends, seconds held at the last of their width. On a reachable node none of these caps changes anything. Assumes
 -- nothing.
-use Rattle.std.specs.Prelude.{ℕ, ◌+◌, ◌%◌, ◌≤◌, ◌<◌, ◌≡◌, true, List, ℤ, length, get_or}
+use Rattle.std.specs.Prelude.{ℕ, ◌+◌, ◌%◌, ◌≤◌, ◌<◌, ◌≡◌, true, List, ℤ, length, get_or, Ok, Option, Some}
 use Rattle.std.proofs.Math.IntN.{sub_ℕ}
 use Rattle.clock.specs.declared.reading.VirtualLocalTime.{VirtualLocalTime}
 use Rattle.clock.specs.declared.time.GlobalTime.{GlobalTime}
 use Rattle.clock.specs.declared.base.TimeBase.{TimeBase}
-use Rattle.clock.specs.declared.base.Held.{Held}
-use Rattle.clock.specs.declared.base.Held.TheVariants.{Set}
 use Rattle.clock.specs.Reading.{span_of}
 use Rattle.clock.specs.Time.{most_nanoseconds, nanoseconds_of}
 use Rattle.clock.specs.Base.{time_at}
@@ -16,7 +14,6 @@ use Rattle.frame.specs.declared.values.Fup.{Fup}
 use Rattle.frame.specs.declared.values.Frame.TheVariants.{Sync as sync, Fup as fup}
 use Rattle.frame.specs.ByteTwo.{counters}
 use Rattle.frame.specs.Ids.{id_at}
-use Rattle.frame_read.specs.declared.Read.TheVariants.{Values}
 use Rattle.frame_read.specs.Read.{read_of, named_domain}
 use Rattle.frame_laws.specs.RoundTrip.{AreBytes}
 use Rattle.settings.specs.declared.domain_settings.Role.TheVariants.{Slave}
@@ -24,28 +21,25 @@ use Rattle.settings.specs.Node.{places}
 use Rattle.admission.specs.Reading.{is_good_reading}
 use Rattle.domain.specs.declared.Domain.{Domain}
 use Rattle.domain.specs.declared.Pair.{Pair}
-use Rattle.domain.specs.declared.Pairing.TheVariants.{Open as open_pair}
 use Rattle.domain.specs.declared.LastSync.TheVariants.{Seen}
 use Rattle.domain.specs.declared.Sending.TheVariants.{Open, Confirmed}
 use Rattle.domain.specs.Records.{record_at}
 use Rattle.slave_counter.specs.Counter.{jump_of}
-use Rattle.slave_answer.specs.declared.FrameAnswer.TheVariants.{Updated}
 use Rattle.slave_update.specs.Update.{new_base, moved_by}
-use Rattle.master_rules.specs.declared.due.Due.TheVariants.{At}
 use Rattle.master_send.specs.Send.{due_in}
 use Rattle.call_read.specs.declared.Shown.{Shown}
-use Rattle.call_read.specs.declared.ReadAnswer.TheVariants.{Time}
 use Rattle.node.specs.declared.Node.{Node}
 use Rattle.node.specs.Frame.{addressed_by, node_frame_of}
 use Rattle.node.specs.Read.{node_read_of}
 use Rattle.node_laws.specs.Bounds.{TimeExact}
+use Rattle.slave_answer.specs.declared.Taken.TheVariants.{Updated}
 
 -- ---- A reading that a record holds and that a rule takes from t: of its base (a read, TIMEOUT, due), of the SYNC
 -- accepted last (6), of the open pair (7), of the SYNC sent last (11 where it is open; due).
 pub data HeldAt (d : Domain) : VirtualLocalTime → Type 0 where
-  of_base : (b : TimeBase) → d.base ≡ Set b → HeldAt d b.at
+  of_base : (b : TimeBase) → d.base ≡ Some b → HeldAt d b.at
   of_last : (counter row : ℕ) (at : VirtualLocalTime) → d.last ≡ Seen counter row at → HeldAt d at
-  of_pair : (p : Pair) → d.pairing ≡ open_pair p → HeldAt d p.at
+  of_pair : (p : Pair) → d.pairing ≡ Some p → HeldAt d p.at
   of_open :
       (counter seconds nanoseconds : ℕ) (at : VirtualLocalTime) → d.sending ≡ Open counter seconds nanoseconds at →
       HeldAt d at
@@ -69,9 +63,9 @@ pub record JumpExact (last new : ℕ) : Type 0 where
   pub only : (jump : ℕ) → Leads last new jump → jump ≡ jump_of last new
 
 -- ---- a time shown or sent at t, of a base that is set
-pub record TimeOf (held : Held) (t : VirtualLocalTime) (g : GlobalTime) : Type 0 where
+pub record TimeOf (held : Option TimeBase) (t : VirtualLocalTime) (g : GlobalTime) : Type 0 where
   pub base : TimeBase
-  pub is : held ≡ Set base
+  pub is : held ≡ Some base
   pub exact : TimeExact base.time base.at g t
 
 -- ---- "let D be the new time minus the old base's time, both at the new T2": neither end is held
@@ -80,11 +74,11 @@ pub record MovedExact (old new : TimeBase) (moved : ℤ) : Type 0 where
   pub difference : moved ≡ sub_ℕ (nanoseconds_of new.time) (nanoseconds_of (time_at old new.at))
 
 -- ---- so for a base before and after
-pub record Moves (before after : Held) (moved : ℤ) : Type 0 where
+pub record Moves (before after : Option TimeBase) (moved : ℤ) : Type 0 where
   pub old : TimeBase
   pub new : TimeBase
-  pub was : before ≡ Set old
-  pub is : after ≡ Set new
+  pub was : before ≡ Some old
+  pub is : after ≡ Some new
   pub exact : MovedExact old new moved
 
 -- ---- "the DataID that the list for this kind of frame holds at the counter": it holds one, whatever stands in for none
@@ -101,22 +95,22 @@ pub record CapsExact (n : Node) : Type 0 where
   pub jumps :
       (i : ℕ) → i < places → (last row : ℕ) (at : VirtualLocalTime) →
       (record_at n.domains i).last ≡ Seen last row at → (bytes : List ℕ) (s : Sync) →
-      read_of bytes ≡ Values (sync s) → JumpExact last s.counter
+      read_of bytes ≡ Ok (sync s) → JumpExact last s.counter
   pub joined :
       (i : ℕ) → i < places → (record_at n.domains i).settings.role ≡ Slave → (old : TimeBase) (p : Pair) →
-      (record_at n.domains i).base ≡ Set old → (record_at n.domains i).pairing ≡ open_pair p →
-      (bytes : List ℕ) (f : Fup) → read_of bytes ≡ Values (fup f) → f.nanoseconds ≤ most_nanoseconds →
+      (record_at n.domains i).base ≡ Some old → (record_at n.domains i).pairing ≡ Some p →
+      (bytes : List ℕ) (f : Fup) → read_of bytes ≡ Ok (fup f) → f.nanoseconds ≤ most_nanoseconds →
       MovedExact old (new_base p f) (moved_by old (new_base p f))
   pub moved :
-      (t : VirtualLocalTime) (bytes : List ℕ) (moved : ℤ) → (node_frame_of n t bytes).answer ≡ Updated moved →
+      (t : VirtualLocalTime) (bytes : List ℕ) (moved : ℤ) → (node_frame_of n t bytes).answer ≡ Ok (Updated moved) →
       Moves (record_at n.domains (addressed_by bytes)).base
       (record_at (node_frame_of n t bytes).node.domains (addressed_by bytes)).base moved
   pub shown :
-      (domain : ℕ) (t : VirtualLocalTime) (shown : Shown) → node_read_of n domain t ≡ Time shown →
+      (domain : ℕ) (t : VirtualLocalTime) (shown : Shown) → node_read_of n domain t ≡ Ok shown →
       TimeOf (record_at n.domains (domain % places)).base t shown.time
   pub sent :
       (i : ℕ) → i < places → (t : VirtualLocalTime) → Passes n t → (seconds nanoseconds : ℕ) →
-      due_in (record_at n.domains i) t ≡ At seconds nanoseconds →
+      due_in (record_at n.domains i) t ≡ Some (record { seconds = seconds; nanoseconds = nanoseconds }) →
       TimeOf (record_at n.domains i).base t (record { 0 = seconds; 1 = nanoseconds })
   pub counter :
       (i : ℕ) → i < places →

@@ -1,9 +1,7 @@
 -- What holds of every node that is reachable: one record for a domain in each role, one for the node. A
 -- later request adds a field. Assumes nothing.
-use Rattle.std.specs.Prelude.{ℕ, ◌+◌, ◌%◌, ◌^◌, ◌≤◌, ◌<◌, ◌≡◌, true, false, ◌⊎◌, length}
+use Rattle.std.specs.Prelude.{ℕ, ◌+◌, ◌%◌, ◌^◌, ◌≤◌, ◌<◌, ◌≡◌, true, false, ◌⊎◌, length, None, Option, Some}
 use Rattle.clock.specs.declared.reading.VirtualLocalTime.{VirtualLocalTime}
-use Rattle.clock.specs.declared.base.Held.{Held}
-use Rattle.clock.specs.declared.base.Held.TheVariants.{Unset, Set}
 use Rattle.clock.specs.Reading.{span_of}
 use Rattle.clock.specs.Time.{most_nanoseconds, most_set, most_received}
 use Rattle.frame.specs.ByteTwo.{counters}
@@ -14,23 +12,22 @@ use Rattle.settings.specs.Domain.{held_of, absent_held}
 use Rattle.settings.specs.Node.{places}
 use Rattle.domain.specs.declared.Domain.{Domain}
 use Rattle.domain.specs.declared.Pair.{Pair}
-use Rattle.domain.specs.declared.Pairing.{Pairing}
-use Rattle.domain.specs.declared.Pairing.TheVariants.{Waiting, Open}
 use Rattle.domain.specs.declared.LastSync.{LastSync}
 use Rattle.domain.specs.declared.LastSync.TheVariants.{Unknown, Seen}
 use Rattle.domain.specs.declared.Sending.{Sending}
 use Rattle.domain.specs.declared.Sending.TheVariants.{Never, Open as open_sync, Confirmed}
-use Rattle.domain.specs.declared.Leap.{Leap}
-use Rattle.domain.specs.declared.Leap.TheVariants.{None, Future, Past}
 use Rattle.domain.specs.Fresh.{fresh_of}
 use Rattle.domain.specs.Records.{record_at}
 use Rattle.node.specs.declared.Node.{Node}
 use Rattle.node_laws.specs.Reachable.{are_ids}
+use Rattle.clock.specs.declared.base.TimeBase.{TimeBase}
+use Rattle.domain.specs.declared.Leap.{Leap}
+use Rattle.domain.specs.declared.Leap.TheVariants.{Future, Past}
 
 -- ---- a held time: seconds at most so many, nanoseconds in range, its reading at most the kept one
-abbrev pub HeldWithin : (most : ℕ) (kept : VirtualLocalTime) → Held → Type 0
-HeldWithin most kept Unset = Unit {0}
-HeldWithin most kept (Set b) = (b.time.0 ≤ most) × (b.time.1 ≤ most_nanoseconds) × (b.at.0 ≤ kept.0)
+abbrev pub HeldWithin : (most : ℕ) (kept : VirtualLocalTime) → Option TimeBase → Type 0
+HeldWithin most kept None = Unit {0}
+HeldWithin most kept (Some b) = (b.time.0 ≤ most) × (b.time.1 ≤ most_nanoseconds) × (b.at.0 ≤ kept.0)
 
 -- ---- the SYNC last accepted, with a row of at most H
 abbrev pub LastWithin : (kept : VirtualLocalTime) (h : ℕ) → LastSync → Type 0
@@ -42,43 +39,43 @@ abbrev pub OfLast : (h : ℕ) → LastSync → Pair → Type 0
 OfLast h Unknown p = ⊥
 OfLast h (Seen counter row at) p = (counter ≡ p.counter) × (at ≡ p.at) × (h ≤ row)
 
-abbrev pub PairWithin : (kept : VirtualLocalTime) (f h : ℕ) → LastSync → Pairing → Type 0
-PairWithin kept f h last Waiting = Unit {0}
-PairWithin kept f h last (Open p) = (p.seconds < 2 ^ 32) × (OfLast h last p ⊎ (f < span_of p.at kept))
+abbrev pub PairWithin : (kept : VirtualLocalTime) (f h : ℕ) → LastSync → Option Pair → Type 0
+PairWithin kept f h last None = Unit {0}
+PairWithin kept f h last (Some p) = (p.seconds < 2 ^ 32) × (OfLast h last p ⊎ (f < span_of p.at kept))
 
 -- ---- a slave's base is of a SYNC that was accepted, the last one or one before
-abbrev pub BaseBefore : LastSync → Held → Type 0
-BaseBefore last Unset = Unit {0}
-BaseBefore Unknown (Set b) = ⊥
-BaseBefore (Seen counter row at) (Set b) = b.at.0 ≤ at.0
+abbrev pub BaseBefore : LastSync → Option TimeBase → Type 0
+BaseBefore last None = Unit {0}
+BaseBefore Unknown (Some b) = ⊥
+BaseBefore (Seen counter row at) (Some b) = b.at.0 ≤ at.0
 
 -- ---- and of one before that of the open pair
-abbrev pub BaseFirst : Pairing → Held → Type 0
-BaseFirst Waiting base = Unit {0}
-BaseFirst (Open p) Unset = Unit {0}
-BaseFirst (Open p) (Set b) = b.at.0 ≤ p.at.0
+abbrev pub BaseFirst : Option Pair → Option TimeBase → Type 0
+BaseFirst None base = Unit {0}
+BaseFirst (Some p) None = Unit {0}
+BaseFirst (Some p) (Some b) = b.at.0 ≤ p.at.0
 
 -- ---- an unset base shows nothing
-abbrev pub Blank : Held → Domain → Type 0
-Blank (Set b) d = Unit {0}
-Blank Unset d = (d.updates ≡ 0) × (d.user ≡ record { 0 = 0; 1 = 0; 2 = 0 }) × (d.sgw ≡ false) × (d.leap ≡ None)
+abbrev pub Blank : Option TimeBase → Domain → Type 0
+Blank (Some b) d = Unit {0}
+Blank None d = (d.updates ≡ 0) × (d.user ≡ record { 0 = 0; 1 = 0; 2 = 0 }) × (d.sgw ≡ false) × (d.leap ≡ None)
 
 -- ---- the run of a leap that shows is below the count that clears it
-abbrev pub RunBelow : (count : ℕ) → Leap → Type 0
+abbrev pub RunBelow : (count : ℕ) → Option Leap → Type 0
 RunBelow count None = Unit {0}
-RunBelow count (Future run) = run < count
-RunBelow count (Past run) = run < count
+RunBelow count (Some (Future run)) = run < count
+RunBelow count (Some (Past run)) = run < count
 
 -- ---- what was sent last: from a base that is set, with the counter before the next one
-abbrev pub BaseSet : Held → Type 0
-BaseSet Unset = ⊥
-BaseSet (Set b) = Unit {0}
+abbrev pub BaseSet : Option TimeBase → Type 0
+BaseSet None = ⊥
+BaseSet (Some b) = Unit {0}
 
 -- ---- a base once set stays set
 abbrev pub BaseStays : (before after : Domain) → Type 0
 BaseStays before after = BaseSet before.base → BaseSet after.base
 
-abbrev pub SentWithin : (kept : VirtualLocalTime) → Held → (next : ℕ) → Sending → Type 0
+abbrev pub SentWithin : (kept : VirtualLocalTime) → Option TimeBase → (next : ℕ) → Sending → Type 0
 SentWithin kept base next Never = next ≡ 0
 SentWithin kept base next (open_sync counter seconds nanoseconds at) =
     BaseSet base × (counter < counters) × (next ≡ (counter + 1) % counters) × (seconds < 2 ^ 32)
@@ -101,7 +98,7 @@ pub record MasterGood (kept : VirtualLocalTime) (d : Domain) : Type 0 where
   pub base : HeldWithin most_set kept d.base
   pub sent : SentWithin kept d.base d.next_counter d.sending
   pub blank : Blank d.base d
-  pub waiting : d.pairing ≡ Waiting
+  pub waiting : d.pairing ≡ None
   pub unknown : d.last ≡ Unknown
   pub stored : (d.user ≡ record { 0 = 0; 1 = 0; 2 = 0 }) × (d.sgw ≡ false) × (d.leap ≡ None)
 

@@ -1,20 +1,17 @@
 -- Paper 02, request 5, over the calls of a node from `new` on: "after the counter was unknown or forgotten, H further
 -- SYNC frames in a row with a good counter must come before any pair may be taken". What came before a FUP that is
 -- taken is told by the answers that the SYNCs before it got. And what 15 leaves open. Assumes nothing.
-use Rattle.std.specs.Prelude.{ℕ, zero, suc, ◌≤◌, ◌<◌, ◌≡◌, cond, ◌⊎◌, List, [], ◌∷◌, ◌++◌, eqb}
+use Rattle.std.specs.Prelude.{ℕ, zero, suc, ◌≤◌, ◌<◌, ◌≡◌, cond, ◌⊎◌, List, [], ◌∷◌, ◌++◌, eqb, Err, Ok, Result, Some}
 use Rattle.clock.specs.declared.reading.VirtualLocalTime.{VirtualLocalTime}
 use Rattle.clock.specs.Reading.{span_of}
 use Rattle.frame.specs.declared.values.Sync.{Sync}
 use Rattle.frame.specs.declared.values.Fup.{Fup}
 use Rattle.frame.specs.declared.values.Frame.TheVariants.{Sync as sync, Fup as fup}
-use Rattle.frame_read.specs.declared.Read.{Read}
-use Rattle.frame_read.specs.declared.Read.TheVariants.{Values, LengthNot8, NoSuchType}
 use Rattle.frame_read.specs.Read.{read_of}
 use Rattle.frame_laws.specs.RoundTrip.{AreBytes}
 use Rattle.settings.specs.declared.domain_settings.DomainSettings.{DomainSettings}
 use Rattle.settings.specs.declared.node_settings.NodeSettings.{NodeSettings}
 use Rattle.domain.specs.declared.Pair.{Pair}
-use Rattle.domain.specs.declared.Pairing.TheVariants.{Open}
 use Rattle.slave_counter.specs.Counter.{jump_of}
 use Rattle.node.specs.declared.Node.{Node}
 use Rattle.node.specs.New.{new_of}
@@ -22,6 +19,9 @@ use Rattle.node.specs.Frame.{addressed_by}
 use Rattle.node_call.specs.Calls.{Call, frame, read, set, cycle, confirm, node_after, node_after_all, answer_to, number_in}
 use Rattle.node_laws.specs.Reachable.{AreCalls, IsSettings, Reachable}
 use Rattle.node_laws.specs.Excepted.{named}
+use Rattle.frame.specs.declared.values.Frame.{Frame}
+use Rattle.frame_read.specs.declared.NoFrame.{NoFrame}
+use Rattle.frame_read.specs.declared.NoFrame.TheVariants.{LengthNot8, NoSuchType}
 
 -- ---- A SYNC that a domain heard: one that became the last, answered 0 or 15; or one refused by 6.
 pub data Heard : Type 0 where
@@ -34,11 +34,11 @@ sync_heard t s number =
     (cond (eqb number 0) (accepted s.counter t ∷ [])
     (cond (eqb number 15) (accepted s.counter t ∷ []) []))
 
-abbrev pub heard_of : VirtualLocalTime → Read → (number : ℕ) → List Heard
-heard_of t (Values (sync s)) number = sync_heard t s number
-heard_of t (Values (fup f)) number = []
-heard_of t LengthNot8 number = []
-heard_of t NoSuchType number = []
+abbrev pub heard_of : VirtualLocalTime → Result Frame NoFrame → (number : ℕ) → List Heard
+heard_of t (Ok (sync s)) number = sync_heard t s number
+heard_of t (Ok (fup f)) number = []
+heard_of t (Err LengthNot8) number = []
+heard_of t (Err NoSuchType) number = []
 
 -- ---- Those of the domain at place i, of a call; of calls one after another, the newest first, before older ones.
 abbrev pub heard_by : (i : ℕ) → Node → Call → List Heard
@@ -90,7 +90,7 @@ pub record AfterRow (s : DomainSettings) (t : VirtualLocalTime) (f : Fup) (heard
 abbrev pub TakenInRow : Type 0
 TakenInRow =
     (s : NodeSettings) → IsSettings s → (cs : List Call) → AreCalls cs →
-    (t : VirtualLocalTime) (bytes : List ℕ) (f : Fup) → read_of bytes ≡ Values (fup f) →
+    (t : VirtualLocalTime) (bytes : List ℕ) (f : Fup) → read_of bytes ≡ Ok (fup f) →
     let fresh = (new_of s).node in let n = node_after_all fresh cs in
     number_in (answer_to n (frame t bytes)) ≡ 0 →
     AfterRow (named n bytes).settings t f (heard_in (addressed_by bytes) fresh cs [])
@@ -100,4 +100,4 @@ abbrev pub StalePair : Type 0
 StalePair =
     (n : Node) → Reachable n → (t : VirtualLocalTime) (bytes : List ℕ) → AreBytes bytes →
     number_in (answer_to n (frame t bytes)) ≡ 15 → (p : Pair) → let after = node_after n (frame t bytes) in
-    (named after bytes).pairing ≡ Open p → (named after bytes).settings.follow_up_time < span_of p.at after.kept
+    (named after bytes).pairing ≡ Some p → (named after bytes).settings.follow_up_time < span_of p.at after.kept

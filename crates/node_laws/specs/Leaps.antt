@@ -1,24 +1,24 @@
 -- Paper 02, request 3: what moves the leap of a domain. Assumes nothing.
-use Rattle.std.specs.Prelude.{ℕ, ◌<◌, ◌≤◌, ◌≡◌, cond, List, [], ◌∷◌, ◌++◌, eqb, ℤ, length}
+use Rattle.std.specs.Prelude.{ℕ, ◌<◌, ◌≤◌, ◌≡◌, cond, List, [], ◌∷◌, ◌++◌, eqb, ℤ, length, Err, None, Ok, Option}
 use Rattle.settings.specs.declared.domain_settings.DomainSettings.{DomainSettings}
-use Rattle.domain.specs.declared.Leap.{Leap}
-use Rattle.domain.specs.declared.Leap.TheVariants.{None}
 use Rattle.domain.specs.Records.{record_at}
-use Rattle.slave_answer.specs.declared.FrameAnswer.{FrameAnswer}
-use Rattle.slave_answer.specs.declared.FrameAnswer.TheVariants.{SyncTaken, FirstTaken, Updated, Refused}
 use Rattle.slave_update.specs.Row.{leap_of, Within, AllWithin, leap_after_all}
 use Rattle.slave_status.specs.Status.{leap_bits}
 use Rattle.node.specs.declared.Node.{Node}
 use Rattle.node.specs.Frame.{addressed_by, node_frame_of}
 use Rattle.node_call.specs.Calls.{Call, frame, read, set, cycle, confirm, node_after, node_after_all}
 use Rattle.node_laws.specs.Good.{BaseSet}
+use Rattle.domain.specs.declared.Leap.{Leap}
+use Rattle.refusal.specs.Numbers.{Outcome}
+use Rattle.slave_answer.specs.declared.Taken.{Taken}
+use Rattle.slave_answer.specs.declared.Taken.TheVariants.{First, Opened, Updated}
 
 -- ---- The D of an answer, if it is an update's; of a call, in the domain at place i; of calls one after another.
-abbrev pub moves_of : FrameAnswer → List ℤ
-moves_of SyncTaken = []
-moves_of FirstTaken = []
-moves_of (Updated d) = d ∷ []
-moves_of (Refused refusal) = []
+abbrev pub moves_of : Outcome Taken → List ℤ
+moves_of (Ok Opened) = []
+moves_of (Ok First) = []
+moves_of (Ok (Updated d)) = d ∷ []
+moves_of (Err refusal) = []
 
 abbrev pub moves_by : (i : ℕ) → Node → Call → List ℤ
 moves_by i n (frame t bytes) = cond (eqb (addressed_by bytes) i) (moves_of (node_frame_of n t bytes).answer) []
@@ -32,7 +32,7 @@ moves_in i n [] = []
 moves_in i n (c ∷ rest) = moves_by i n c ++ moves_in i (node_after n c) rest
 
 -- ---- The leap after updates by these D, by a domain's settings.
-abbrev pub leap_by : DomainSettings → Leap → List ℤ → Leap
+abbrev pub leap_by : DomainSettings → Option Leap → List ℤ → Option Leap
 leap_by s = leap_after_all s.future_threshold s.past_threshold s.clear_count
 
 -- ---- On any node, after any calls: the leap of a domain whose base is set is moved by its updates alone.

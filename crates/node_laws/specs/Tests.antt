@@ -1,24 +1,12 @@
 -- Paper 01, "Refusal numbers": "0 is success. The call tests in the order of the numbers, as far as each concerns
 -- it." For each call its tests in that order, each with the number that it gives; paper 02, request 5, has 15 "after
 -- 6". Assumes nothing.
-use Rattle.std.specs.Prelude.{ℕ, ◌+◌, ◌*◌, ◌%◌, Bool, true, false, not, cond, ◌&&◌, List, [], ◌∷◌, leb, ltb, eqb, length, get_or}
+use Rattle.std.specs.Prelude.{ℕ, ◌+◌, ◌*◌, ◌%◌, Bool, true, false, not, cond, ◌&&◌, List, [], ◌∷◌, leb, ltb, eqb, length, get_or, Err, None, Ok, Option, Result, Some}
 use Rattle.clock.specs.declared.reading.VirtualLocalTime.{VirtualLocalTime}
-use Rattle.clock.specs.declared.base.Held.{Held}
-use Rattle.clock.specs.declared.base.Held.TheVariants.{Unset, Set}
 use Rattle.clock.specs.Time.{is_nanoseconds}
-use Rattle.frame.specs.declared.types.FrameType.{FrameType}
-use Rattle.frame.specs.declared.types.FrameType.TheVariants.{
-  PlainSync,
-  SecuredSync,
-  PlainFup,
-  SecuredFup,
-  Unknown,
-}
 use Rattle.frame.specs.declared.values.Fup.{Fup}
 use Rattle.frame.specs.declared.values.Frame.TheVariants.{Sync as sync, Fup as fup}
 use Rattle.frame.specs.Types.{type_of}
-use Rattle.frame_read.specs.declared.Read.{Read}
-use Rattle.frame_read.specs.declared.Read.TheVariants.{Values, LengthNot8, NoSuchType}
 use Rattle.frame_read.specs.Read.{named_domain, values_of}
 use Rattle.frame_check.specs.Check.{is_taken}
 use Rattle.settings.specs.declared.node_settings.NodeSettings.{NodeSettings}
@@ -29,8 +17,6 @@ use Rattle.admission.specs.declared.Needed.TheVariants.{Slave, Master, Either}
 use Rattle.admission.specs.Reading.{is_good_reading}
 use Rattle.admission.specs.Admission.{is_for}
 use Rattle.domain.specs.declared.Domain.{Domain}
-use Rattle.domain.specs.declared.Pairing.{Pairing}
-use Rattle.domain.specs.declared.Pairing.TheVariants.{Waiting, Open as open_pair}
 use Rattle.domain.specs.declared.Sending.{Sending}
 use Rattle.domain.specs.declared.Sending.TheVariants.{Never, Open, Confirmed}
 use Rattle.domain.specs.Records.{record_at}
@@ -44,6 +30,13 @@ use Rattle.node.specs.declared.Node.{Node}
 use Rattle.node.specs.Frame.{addressed_by}
 use Rattle.node.specs.Cycle.{is_room_for}
 use Rattle.node_call.specs.Calls.{Call, frame, read, set, cycle, confirm}
+use Rattle.clock.specs.declared.base.TimeBase.{TimeBase}
+use Rattle.domain.specs.declared.Pair.{Pair}
+use Rattle.frame.specs.declared.types.FrameType.{FrameType}
+use Rattle.frame.specs.declared.types.FrameType.TheVariants.{PlainFup, PlainSync, SecuredFup, SecuredSync}
+use Rattle.frame.specs.declared.values.Frame.{Frame}
+use Rattle.frame_read.specs.declared.NoFrame.{NoFrame}
+use Rattle.frame_read.specs.declared.NoFrame.TheVariants.{LengthNot8, NoSuchType}
 
 -- ---- A number and its test, which is true where the number is to be given; the first such number, else 0.
 abbrev pub Tests : Type 0
@@ -58,12 +51,12 @@ abbrev pub bad_reading : Node → VirtualLocalTime → Bool
 bad_reading n t = not (is_good_reading n.kept t)
 
 -- ---- 3 "byte 0 none of the four types"
-abbrev pub no_type : FrameType → Bool
-no_type PlainSync = false
-no_type SecuredSync = false
-no_type PlainFup = false
-no_type SecuredFup = false
-no_type Unknown = true
+abbrev pub no_type : Option FrameType → Bool
+no_type (Some PlainSync) = false
+no_type (Some SecuredSync) = false
+no_type (Some PlainFup) = false
+no_type (Some SecuredFup) = false
+no_type None = true
 
 -- ---- 4 "domain above 15 or not in the role needed"
 abbrev pub not_for : Domain → (asked : ℕ) → Needed → Bool
@@ -84,19 +77,19 @@ not_complete h row Good = ltb (row + 1) h
 not_complete h row NotGood = false
 
 -- ---- 7 "FUP with no open pair": "A pair older than F counts as not open"
-abbrev pub no_open_pair : (f : ℕ) → Pairing → VirtualLocalTime → Bool
-no_open_pair f Waiting t = true
-no_open_pair f (open_pair p) t = is_old f p t
+abbrev pub no_open_pair : (f : ℕ) → Option Pair → VirtualLocalTime → Bool
+no_open_pair f None t = true
+no_open_pair f (Some p) t = is_old f p t
 
 -- ---- 8 "FUP's counter not the pair's"
-abbrev pub not_the_pairs : Pairing → Fup → Bool
-not_the_pairs Waiting f = true
-not_the_pairs (open_pair p) f = is_other p f
+abbrev pub not_the_pairs : Option Pair → Fup → Bool
+not_the_pairs None f = true
+not_the_pairs (Some p) f = is_other p f
 
 -- ---- 10 "read of a base never set"
-abbrev pub never_set : Held → Bool
-never_set Unset = true
-never_set (Set b) = false
+abbrev pub never_set : Option TimeBase → Bool
+never_set None = true
+never_set (Some b) = false
 
 -- ---- 11 "confirmation with no open SYNC of that counter, or older than C"
 abbrev pub no_open_sync : (c : ℕ) → Sending → VirtualLocalTime → (counter : ℕ) → Bool
@@ -105,18 +98,18 @@ no_open_sync c (Open sent seconds nanoseconds at) t counter = not (is_open_for c
 no_open_sync c (Confirmed at) t counter = true
 
 -- ---- A frame: 1, 2, 3, 4, 5; then a SYNC 6, 15, a FUP 7, 8, 9.
-abbrev pub kind_tests : Read → Domain → VirtualLocalTime → Tests
-kind_tests (Values (sync s)) d t =
+abbrev pub kind_tests : Result Frame NoFrame → Domain → VirtualLocalTime → Tests
+kind_tests (Ok (sync s)) d t =
     (6, not_good (verdict_for d t s))
     ∷ (15, not_complete d.settings.hysteresis (row_of d.last) (verdict_for d t s))
     ∷ []
-kind_tests (Values (fup f)) d t =
+kind_tests (Ok (fup f)) d t =
     (7, no_open_pair d.settings.follow_up_time d.pairing t)
     ∷ (8, not_the_pairs d.pairing f)
     ∷ (9, is_above f)
     ∷ []
-kind_tests LengthNot8 d t = []
-kind_tests NoSuchType d t = []
+kind_tests (Err LengthNot8) d t = []
+kind_tests (Err NoSuchType) d t = []
 
 abbrev pub frame_tests : Node → VirtualLocalTime → (bytes : List ℕ) → Tests
 frame_tests n t bytes =

@@ -5,6 +5,7 @@
 --   queue_refusal_keeps   a refused queue leaves the node and every byte as they were
 --   queue_one             a queue of one frame is the frame call
 -- Assumes nothing.
+use Rattle.std.specs.Prelude.{Err, Ok, ⊤}
 use Prim.Native.Nat.{ℕ, zero, suc, ◌+◌, ◌*◌, ◌≤◌, ◌<◌}
 use mathlib.Core.Path.{◌≡◌, refl, ap, ◌∙◌}
 use mathlib.Core.List.{List, [], ◌∷◌, ◌++◌}
@@ -14,18 +15,9 @@ use lib.Seq.{drop-drop, drop_at, take_all}
 use borrow.Author.Tests.{le-leb, eq-eqb}
 use Rattle.node.specs.declared.Node.{Node}
 use Rattle.node_call.specs.Calls.{Call, frame, node_after, answer_to, number_in, answers_to, node_after_all}
-use Rattle.node_queue.specs.declared.QueueAnswer.{QueueAnswer}
-use Rattle.node_queue.specs.declared.QueueAnswer.TheVariants.{Taken, Refused}
 use Rattle.node_queue.specs.declared.NodeQueue.{NodeQueue}
-use Rattle.node_queue.specs.Queue.{
-  queue_calls,
-  call_at,
-  queue_numbers,
-  queue_number,
-  queue_node,
-  queue_bytes,
-  QueuedIn,
-}
+use Rattle.node_queue.specs.Queue.{queue_calls, call_at, queue_numbers, queue_node, queue_bytes, QueuedIn}
+use Rattle.refusal.specs.Numbers.{Outcome, outcome_number}
 
 -- ---- each at its place
 
@@ -59,13 +51,13 @@ numbers_length n ts fs =
 
 module _ (n : Node) (ts fs before : List ℕ) (r : NodeQueue) (after : List ℕ) (q : QueuedIn n ts fs before r after) where
   -- the node and the bytes, by another name for the answer
-  node_by : {a : QueueAnswer} → r.answer ≡ a → r.node ≡ queue_node a n ts fs
-  node_by e = q.node ∙ ap (λ (a : QueueAnswer). queue_node a n ts fs) e
+  node_by : {a : Outcome ⊤} → r.answer ≡ a → r.node ≡ queue_node a n ts fs
+  node_by e = q.node ∙ ap (λ (a : Outcome ⊤). queue_node a n ts fs) e
 
-  bytes_by : {a : QueueAnswer} → r.answer ≡ a → after ≡ queue_bytes a n ts fs before
-  bytes_by e = q.bytes ∙ ap (λ (a : QueueAnswer). queue_bytes a n ts fs before) e
+  bytes_by : {a : Outcome ⊤} → r.answer ≡ a → after ≡ queue_bytes a n ts fs before
+  bytes_by e = q.bytes ∙ ap (λ (a : Outcome ⊤). queue_bytes a n ts fs before) e
 
-  pub queue_zero : length ts ≤ length before → length ts ≤ 32 → length fs ≡ 8 * length ts → r.answer ≡ Taken
+  pub queue_zero : length ts ≤ length before → length ts ≤ 32 → length fs ≡ 8 * length ts → r.answer ≡ Ok tt
   queue_zero room most eight =
       q.answer
       ∙ rw (
@@ -77,30 +69,30 @@ module _ (n : Node) (ts fs before : List ℕ) (r : NodeQueue) (after : List ℕ)
   pub queue_stays : drop (length ts) after ≡ drop (length ts) before
   queue_stays = by r.answer refl
     where
-      by : (a : QueueAnswer) → r.answer ≡ a → drop (length ts) after ≡ drop (length ts) before
-      by Taken e =
+      by : (a : Outcome ⊤) → r.answer ≡ a → drop (length ts) after ≡ drop (length ts) before
+      by (Ok tt) e =
           ap (drop (length ts)) (bytes_by e)
           ∙ drop_at (queue_numbers n ts fs) (drop (length ts) before) (length ts) (numbers_length n ts fs)
-      by (Refused refusal) e = ap (drop (length ts)) (bytes_by e)
+      by (Err refusal) e = ap (drop (length ts)) (bytes_by e)
 
   pub queue_numbers_lem :
-      r.answer ≡ Taken → (i d : ℕ) → i < length ts →
+      r.answer ≡ Ok tt → (i d : ℕ) → i < length ts →
       get_or after i d ≡ number_in (answer_to (node_after_all n (queue_calls (take i ts) fs)) (call_at ts fs i))
   queue_numbers_lem e i d h =
       ap (λ (l : List ℕ). get_or l i d) (bytes_by e) ∙ number_at n ts fs (drop (length ts) before) i d h
 
-  pub queue_refusal_keeps : (queue_number r.answer ≡ 0 → ⊥) → (r.node ≡ n) × (after ≡ before)
+  pub queue_refusal_keeps : (outcome_number r.answer ≡ 0 → ⊥) → (r.node ≡ n) × (after ≡ before)
   queue_refusal_keeps refused = by r.answer refl
     where
-      by : (a : QueueAnswer) → r.answer ≡ a → (r.node ≡ n) × (after ≡ before)
-      by Taken e = absurd (refused (ap queue_number e))
-      by (Refused refusal) e = (node_by e, bytes_by e)
+      by : (a : Outcome ⊤) → r.answer ≡ a → (r.node ≡ n) × (after ≡ before)
+      by (Ok tt) e = absurd (refused (ap outcome_number e))
+      by (Err refusal) e = (node_by e, bytes_by e)
 
 pub queue_one :
     (n : Node) (t : ℕ) (fs before : List ℕ) (r : NodeQueue) (after : List ℕ) →
     QueuedIn n (t ∷ []) fs before r after → length fs ≡ 8 → 1 ≤ length before → (d : ℕ) →
     let c = frame (record { 0 = t }) fs in
-    (r.answer ≡ Taken) × (r.node ≡ node_after n c) × (get_or after 0 d ≡ number_in (answer_to n c))
+    (r.answer ≡ Ok tt) × (r.node ≡ node_after n c) × (get_or after 0 d ≡ number_in (answer_to n c))
 queue_one n t fs before r after q eight room d =
     let taken = queue_zero n (t ∷ []) fs before r after q (omega (arith, room)) (omega arith) (omega (arith, eight)) in
     let whole = take_all 8 fs (omega (arith, eight)) in (

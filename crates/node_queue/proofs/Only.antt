@@ -1,15 +1,16 @@
 -- No two results satisfy the promise of F, as `F_only` for each public function F. A result with lent
 -- bytes is a pair of both. No contract cites this file.
 -- Assumes nothing.
+use Rattle.std.specs.Prelude.{⊤}
 use Prim.Native.Nat.{ℕ}
 use mathlib.Core.Path.{◌≡◌, sym, ap, ◌∙◌}
 use mathlib.Core.List.{List}
 use Rattle.promise.specs.Only.{OnlyOne}
 use Rattle.promise.proofs.Laws.{equation_only}
 use Rattle.node.specs.declared.Node.{Node}
-use Rattle.node_queue.specs.declared.QueueAnswer.{QueueAnswer}
 use Rattle.node_queue.specs.declared.NodeQueue.{NodeQueue}
-use Rattle.node_queue.specs.Queue.{queue_answer, queue_number, queue_node, queue_bytes, QueuedIn}
+use Rattle.node_queue.specs.Queue.{queue_answer, queue_node, queue_bytes, QueuedIn}
+use Rattle.refusal.specs.Numbers.{Outcome, outcome_number}
 
 pub on_queue_only :
     (n : Node) (ts fs before : List ℕ) →
@@ -20,8 +21,5 @@ on_queue_only n ts fs before x y p q =
     let bytes = p.bytes ∙ ap (λ a. queue_bytes a n ts fs before) answer ∙ sym q.bytes in
     λ i. (record { answer = answer i; node = node i }, bytes i)
 
-pub number_only : (answer : QueueAnswer) → OnlyOne (λ (r : ℕ). r ≡ queue_number answer)
-number_only answer = equation_only _
-
-pub judge_only : (readings bytes room : ℕ) → OnlyOne (λ (r : QueueAnswer). r ≡ queue_answer readings bytes room)
+pub judge_only : (readings bytes room : ℕ) → OnlyOne (λ (r : Outcome ⊤). r ≡ queue_answer readings bytes room)
 judge_only readings bytes room = equation_only _

@@ -4,6 +4,7 @@
 --   onward       what is left gives it still after one frame
 --   at_end       so that with none left the queue is taken
 -- Assumes nothing.
+use Rattle.std.specs.Prelude.{Ok}
 use Prim.Native.Nat.{ℕ, ◌+◌, ◌*◌, ◌<◌}
 use mathlib.Core.Path.{◌≡◌, sym, ap, ◌∙◌}
 use mathlib.Core.List.{List, [], ◌∷◌, ◌++◌, map, append-nil}
@@ -14,7 +15,6 @@ use lib.Seq.{append_snoc, drop-cons, drop-drop, drop-length, drop-set-lt, take-s
 use Rattle.node.specs.declared.Node.{Node}
 use Rattle.node_call.specs.Calls.{Call, node_after, answer_to, number_in, answers_to, node_after_all}
 use Rattle.node_queue.specs.Queue.{queue_calls, call_at, queue_numbers, queue_answer, queue_node, queue_bytes, QueuedIn}
-use Rattle.node_queue.specs.declared.QueueAnswer.TheVariants.{Taken}
 
 pub record Rest
     (whole : Node) (filled : List ℕ) (ts fs : List ℕ) (i : ℕ) (n : Node) (out : List ℕ) : Type 0 where
@@ -65,9 +65,9 @@ module _ (whole : Node) (filled ts fs : List ℕ) (i : ℕ) (n : Node) (out : Li
 
 pub at_end :
     (n₀ : Node) (ts fs before : List ℕ) (i : ℕ) (n : Node) (out : List ℕ) → i ≡ length ts →
-    Taken ≡ queue_answer (length ts) (length fs) (length before) →
-    Rest (queue_node Taken n₀ ts fs) (queue_bytes Taken n₀ ts fs before) ts fs i n out →
-    QueuedIn n₀ ts fs before (record { answer = Taken; node = n }) out
+    (Ok tt) ≡ queue_answer (length ts) (length fs) (length before) →
+    Rest (queue_node (Ok tt) n₀ ts fs) (queue_bytes (Ok tt) n₀ ts fs before) ts fs i n out →
+    QueuedIn n₀ ts fs before (record { answer = Ok tt; node = n }) out
 at_end n₀ ts fs before i n out e taken r =
     let none = ap (λ (k : ℕ). drop k ts) e ∙ drop-length ts in
     record {

@@ -1,11 +1,9 @@
 -- Paper 02, request 4: a whole receive queue at once. Assumes nothing.
-use Rattle.std.specs.Prelude.{ℕ, ◌*◌, ◌≡◌, Bool, cond, ◌&&◌, List, [], ◌∷◌, ◌++◌, map, leb, eqb, length, get_or, take, drop}
+use Rattle.std.specs.Prelude.{ℕ, ◌*◌, ◌≡◌, Bool, cond, ◌&&◌, List, [], ◌∷◌, ◌++◌, map, leb, eqb, length, get_or, take, drop, Err, Ok, ⊤}
 use Rattle.refusal.specs.declared.Refusal.TheVariants.{Length, NoRoom}
-use Rattle.refusal.specs.Numbers.{number_of}
+use Rattle.refusal.specs.Numbers.{number_of, Outcome}
 use Rattle.node.specs.declared.Node.{Node}
 use Rattle.node_call.specs.Calls.{Call, frame, number_in, answers_to, node_after_all}
-use Rattle.node_queue.specs.declared.QueueAnswer.{QueueAnswer}
-use Rattle.node_queue.specs.declared.QueueAnswer.TheVariants.{Taken, Refused}
 use Rattle.node_queue.specs.declared.NodeQueue.{NodeQueue}
 
 -- ---- "frame-by-frame calls in that order": each reading with its eight bytes
@@ -26,22 +24,18 @@ abbrev pub is_queue : (readings bytes : ℕ) → Bool
 is_queue readings bytes = leb readings 32 && eqb bytes (8 * readings)
 
 -- ---- "12 first, if the answer buffer is shorter than the number of readings; then 2"
-abbrev pub queue_answer : (readings bytes room : ℕ) → QueueAnswer
+abbrev pub queue_answer : (readings bytes room : ℕ) → Outcome ⊤
 queue_answer readings bytes room =
-    cond (leb readings room) (cond (is_queue readings bytes) Taken (Refused Length)) (Refused NoRoom)
-
-abbrev pub queue_number : QueueAnswer → ℕ
-queue_number Taken = 0
-queue_number (Refused refusal) = number_of refusal
+    cond (leb readings room) (cond (is_queue readings bytes) (Ok tt) (Err Length)) (Err NoRoom)
 
 -- ---- "State and answers must be what frame-by-frame calls in that order give"; "then nothing is taken"
-abbrev pub queue_node : QueueAnswer → Node → (readings frames : List ℕ) → Node
-queue_node Taken n ts fs = node_after_all n (queue_calls ts fs)
-queue_node (Refused refusal) n ts fs = n
+abbrev pub queue_node : Outcome ⊤ → Node → (readings frames : List ℕ) → Node
+queue_node (Ok tt) n ts fs = node_after_all n (queue_calls ts fs)
+queue_node (Err refusal) n ts fs = n
 
-abbrev pub queue_bytes : QueueAnswer → Node → (readings frames before : List ℕ) → List ℕ
-queue_bytes Taken n ts fs before = queue_numbers n ts fs ++ drop (length ts) before
-queue_bytes (Refused refusal) n ts fs before = before
+abbrev pub queue_bytes : Outcome ⊤ → Node → (readings frames before : List ℕ) → List ℕ
+queue_bytes (Ok tt) n ts fs before = queue_numbers n ts fs ++ drop (length ts) before
+queue_bytes (Err refusal) n ts fs before = before
 
 -- ---- The promise: the answer, the node, and every lent byte.
 pub record QueuedIn (n : Node) (ts fs before : List ℕ) (r : NodeQueue) (after : List ℕ) : Type 0 where

@@ -4,41 +4,23 @@
 #![tactic(auto)]
 
 ghost use Rattle.std.specs.Prelude.{◌≡◌};
-ghost use Rattle.node_queue.specs.Queue.{queue_answer, queue_number, QueuedIn};
+ghost use Rattle.node_queue.specs.Queue.{queue_answer, QueuedIn};
 
 use call_frame::frame_call;
 use clock::VirtualLocalTime;
 use frame_read::named_domain;
 use node::Node;
-use refusal::Refusal;
+use refusal::{Numbered, Outcome, Refusal};
 
 // The most frames that a queue has.
 pub const QUEUE_MOST: usize = 32;
-
-// Taken, each frame by its own number; or refused, and nothing is taken.
-#[derive(Drop)]
-pub enum QueueAnswer {
-    Taken,
-    Refused(Refusal),
-}
-
-impl QueueAnswer {
-    // The paper's number.
-    pub fn number(self) -> u8
-        ensures { result ≡ queue_number self }
-    {
-        match self {
-            QueueAnswer::Taken => 0,
-            QueueAnswer::Refused(refusal) => refusal.number(),
-        }
-    }
-}
 
 // The node first: behind an answer of two bytes the compiler would hold it twice.
 #[derive(Drop)]
 pub struct NodeQueue {
     pub node: Node,
-    pub answer: QueueAnswer,
+    // Taken, each frame by its own number; or refused, and nothing is taken.
+    pub answer: Outcome<()>,
 }
 
 // Frames of eight bytes one after another in `frames`, each at its reading; the number of each goes to its place in
@@ -48,46 +30,36 @@ pub fn on_queue(mut node: Node, readings: &[u64], frames: &[u8], answers: &mut [
     ensures { QueuedIn node readings.now frames.now answers.old result
         answers.new }
 {
-    if let QueueAnswer::Refused(refusal) = judge(readings.len(), frames.len(), answers.len()) {
-        return NodeQueue {
-            node,
-            answer: QueueAnswer::Refused(refusal),
-        };
+    let answer = judge(readings.len(), frames.len(), answers.len());
+    if answer.is_err() {
+        return NodeQueue { node, answer };
     }
-    let mut i = 0;
-    while i < readings.len() {
-        let t = VirtualLocalTime(readings[i]);
+    for (i, &t) in readings.iter().enumerate() {
         let bytes = &frames[8 * i..8 * i + 8];
         let at = (named_domain(bytes) as usize) % Node::DOMAINS;
-        let kept = node.kept;
-        let record = node.domains[at];
-        let call = frame_call(record, kept, t, bytes);
-        let answer = call.answer;
-        let after = call.domain;
-        let then = call.kept;
-        node.domains[at] = after;
-        node.kept = then;
-        answers[i] = answer.number();
-        i += 1;
+        let call = frame_call(node.domains[at], node.kept, VirtualLocalTime(t), bytes);
+        node.domains[at] = call.domain;
+        node.kept = call.kept;
+        answers[i] = call.answer.number();
     }
     NodeQueue {
         node,
-        answer: QueueAnswer::Taken,
+        answer: Ok(()),
     }
 }
 
 // By how many readings there are, how many bytes of frames, and how much room for the numbers.
-pub fn judge(readings: usize, bytes: usize, room: usize) -> QueueAnswer
+pub fn judge(readings: usize, bytes: usize, room: usize) -> Outcome<()>
     ensures { result ≡ queue_answer readings bytes room }
 {
     if room < readings {
-        return QueueAnswer::Refused(Refusal::NoRoom);
+        return Err(Refusal::NoRoom);
     }
     if QUEUE_MOST < readings {
-        return QueueAnswer::Refused(Refusal::Length);
+        return Err(Refusal::Length);
     }
     if bytes != 8 * readings {
-        return QueueAnswer::Refused(Refusal::Length);
+        return Err(Refusal::Length);
     }
-    QueueAnswer::Taken
+    Ok(())
 }

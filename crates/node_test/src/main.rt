@@ -10,6 +10,7 @@ use frame_check::CheckMode;
 use node::Node;
 use node_call::{Request, call};
 use settings::{DomainSettings, NodeSettings, Role, Security, UserBytes};
+use text::Out;
 use text::pieces::write_out;
 use trial_step::line::put_trial_line;
 
@@ -17,37 +18,29 @@ use trial_step::line::put_trial_line;
 // FUP, for which 4 s come over: OVS has two bits, and is written as 0.
 fn main(rt: HostRuntime) {
     let mut n = strange();
-    n = ask(&rt, n, 1, Request::Set(4, VirtualLocalTime(5000), 5, 0), 10);
-    n = ask(&rt, n, 2, Request::Read(4, VirtualLocalTime(5000)), 10);
-    n = ask(&rt, n, 3, Request::Cycle(VirtualLocalTime(5000)), 10);
-    n = ask(
-        &rt,
-        n,
-        4,
-        Request::Confirm(4, VirtualLocalTime(4_000_005_000), 15),
-        7,
-    );
-    n = ask(
-        &rt,
-        n,
-        5,
-        Request::Confirm(4, VirtualLocalTime(4_000_004_999), 15),
-        10,
-    );
-    n = ask(
-        &rt,
-        n,
-        6,
-        Request::Cycle(VirtualLocalTime(4_000_005_000)),
-        10,
-    );
-    n = ask(
-        &rt,
-        n,
-        7,
-        Request::Confirm(4, VirtualLocalTime(8_000_005_000), 0),
-        10,
-    );
+    for (item, request, length) in [
+        (1, Request::Set(4, VirtualLocalTime(5000), 5, 0), 10),
+        (2, Request::Read(4, VirtualLocalTime(5000)), 10),
+        (3, Request::Cycle(VirtualLocalTime(5000)), 10),
+        (
+            4,
+            Request::Confirm(4, VirtualLocalTime(4_000_005_000), 15),
+            7,
+        ),
+        (
+            5,
+            Request::Confirm(4, VirtualLocalTime(4_000_004_999), 15),
+            10,
+        ),
+        (6, Request::Cycle(VirtualLocalTime(4_000_005_000)), 10),
+        (
+            7,
+            Request::Confirm(4, VirtualLocalTime(8_000_005_000), 0),
+            10,
+        ),
+    ] {
+        n = ask(&rt, n, item, request, length);
+    }
 }
 
 // A call with a lent buffer of 10 bytes, or 7.
@@ -60,24 +53,28 @@ fn ask(rt: &impl Print, n: Node, item: u64, request: Request, length: u8) -> Nod
 }
 
 fn ask_in(rt: &impl Print, n: Node, item: u64, request: Request, lent: &mut [u8]) -> Node {
-    let mut out = [0u8; 128];
+    let mut line = [0u8; 128];
     let called = call(n, request, &[], lent);
-    let answer = called.answer;
-    let end = put_trial_line(&mut out, 0, item, answer, lent);
-    write_out(rt, &out, end);
+    let mut out = Out {
+        bytes: &mut line,
+        at: 0,
+    };
+    put_trial_line(&mut out, item, called.answer, lent);
+    write_out(rt, &out);
     called.node
 }
 
 fn strange() -> Node {
     let made = Node::new(NodeSettings {
         syncs_per_cycle: 1,
-        domains: [DomainSettings::absent(); 16],
+        domains: [DomainSettings::absent(); NodeSettings::DOMAINS],
     });
-    let mut record = Domain::new(4, master());
-    record.updates = 255;
-    record.next_counter = 15;
     let mut n = made.node;
-    n.domains[4] = record;
+    n.domains[4] = Domain {
+        updates: 255,
+        next_counter: 15,
+        ..Domain::new(4, master())
+    };
     n
 }
 
@@ -86,19 +83,13 @@ fn master() -> DomainSettings {
     let sync = *b"\x10\x11\x12\x13\x14\x15\x16\x17\x18\x19\x1a\x1b\x1c\x1d\x1e\x1f";
     let fup = *b"\xa0\xa1\xa2\xa3\xa4\xa5\xa6\xa7\xa8\xa9\xaa\xab\xac\xad\xae\xaf";
     DomainSettings {
-        follow_up_time: 0,
-        loss_time: 0,
-        future_threshold: 0,
-        past_threshold: 0,
         period: 4_000_000_000,
         confirmation_time: u32::MAX,
         ids: DataIds { sync, fup },
         role: Role::Master,
         mode: CheckMode::Optional,
-        jump_width: 0,
-        hysteresis: 0,
-        clear_count: 0,
         security: Security::Secured,
         user: UserBytes(0xB0, 0xB1, 0xB2),
+        ..DomainSettings::absent()
     }
 }

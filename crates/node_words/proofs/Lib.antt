@@ -1,3 +1,2 @@
 -- The laws of `node_words`, each after what it stands on.
-pub mod Runs
 pub mod Only

@@ -1,7 +1,7 @@
 // A record out of the words.
 ghost use Rattle.std.specs.Prelude.{◌+◌, ◌*◌, ◌%◌, ◌<◌, ◌≡◌, length};
 ghost use Rattle.settings.specs.Node.{places};
-ghost use Rattle.node_words.specs.Words.{node_size, record_of};
+ghost use Rattle.node_words.specs.Words.{record_of};
 
 use crate::{HEAD_WORDS, NODE_WORDS, RECORD_WORDS};
 use domain::Domain;
@@ -16,9 +16,8 @@ pub fn record_in(node: &[u64; NODE_WORDS], domain: u8) -> Domain
 }
 
 // The record at a place.
-fn record_at(node: &[u64], at: usize) -> Domain
-    requires node_len { length node.now ≡ node_size }
-    requires at_lt_places { at < places }
+fn record_at(node: &[u64; NODE_WORDS], at: usize) -> Domain
+    requires { at < places }
     ensures { result ≡ record_of node.now at }
 {
     let from = HEAD_WORDS + RECORD_WORDS * at;
@@ -31,7 +30,7 @@ fn record_at(node: &[u64], at: usize) -> Domain
     )
 }
 
-// Eleven words by value.
+// Eleven words by value, one by one. Tried: copy_from_slice, first_chunk: 2,016 bytes more code in the calls for C.
 fn eleven(words: &[u64]) -> [u64; STATE_WORDS]
     requires { length words.now ≡ 11 }
     ensures { result ≡ words.now }

@@ -7,6 +7,7 @@
 --   ids_back, settings_back        sixteen bytes, and the settings
 --   number_back                    the number beside them
 -- Assumes nothing.
+use Rattle.std.specs.Prelude.{None, Option, Some}
 use Prim.Native.Nat.{ℕ, zero, suc, ◌%◌, ◌<◌}
 use mathlib.Core.Path.{◌≡◌, refl}
 use mathlib.Core.Bool.{Bool, true, false}
@@ -16,8 +17,6 @@ use borrow.Author.Rules.{rules}
 use lib.Dec.{eqb}
 use lib.ListN.{length, get_or, take, drop}
 use Rattle.promise.proofs.Tests.{either}
-use Rattle.clock.specs.declared.base.Held.{Held}
-use Rattle.clock.specs.declared.base.Held.TheVariants.{Unset, Set}
 use Rattle.frame_check.specs.declared.CheckMode.{CheckMode}
 use Rattle.frame_check.specs.declared.CheckMode.TheVariants.{Validated, NotValidated, Ignored, Optional}
 use Rattle.settings.specs.declared.domain_settings.DomainSettings.{DomainSettings}
@@ -26,14 +25,10 @@ use Rattle.settings.specs.declared.domain_settings.Role.TheVariants.{Absent, Sla
 use Rattle.settings.specs.declared.domain_settings.Security.{Security}
 use Rattle.settings.specs.declared.domain_settings.Security.TheVariants.{Plain, Secured}
 use Rattle.domain.specs.declared.Domain.{Domain}
-use Rattle.domain.specs.declared.Pairing.{Pairing}
-use Rattle.domain.specs.declared.Pairing.TheVariants.{Waiting, Open}
 use Rattle.domain.specs.declared.LastSync.{LastSync}
 use Rattle.domain.specs.declared.LastSync.TheVariants.{Unknown, Seen}
 use Rattle.domain.specs.declared.Sending.{Sending}
 use Rattle.domain.specs.declared.Sending.TheVariants.{Never, Open as sent, Confirmed}
-use Rattle.domain.specs.declared.Leap.{Leap}
-use Rattle.domain.specs.declared.Leap.TheVariants.{None, Future, Past}
 use Rattle.record_words.specs.Packed.{
   byte4,
   byte5,
@@ -77,10 +72,14 @@ use Rattle.record_words.specs.Fits.{
 }
 use Rattle.record_words.proofs.Runs.{run_all}
 use Rattle.record_words.proofs.Unpacked.{unpacked, byte0_back, byte1_back, eight_back}
+use Rattle.clock.specs.declared.base.TimeBase.{TimeBase}
+use Rattle.domain.specs.declared.Leap.{Leap}
+use Rattle.domain.specs.declared.Leap.TheVariants.{Future, Past}
+use Rattle.domain.specs.declared.Pair.{Pair}
 
-pub pairing_back : (p : Pairing) → PairingFits p → pairing_of (pairing_words p).at (pairing_words p).word ≡ p
-pairing_back Waiting f = refl
-pairing_back (Open p) f =
+pub pairing_back : (p : Option Pair) → PairingFits p → pairing_of (pairing_words p).at (pairing_words p).word ≡ p
+pairing_back None f = refl
+pairing_back (Some p) f =
     let u = unpacked p.seconds p.counter p.user0 p.user1 1 f.0 f.1 f.2 f.3 (omega arith) in
     rw (u.seven, u.half, u.four, u.five, u.six)
 
@@ -91,33 +90,33 @@ last_back (Seen counter row at) f =
     rw (u.six, u.four, u.five)
 
 -- ---- a base's word has room for three bytes more
-pub held_small : (h : Held) → HeldFits h → ((held_words h).nanoseconds < 4294967296) × ((held_words h).code < 256)
-held_small Unset f = (omega arith, omega arith)
-held_small (Set base) f = (f, omega arith)
+pub held_small : (h : Option TimeBase) → HeldFits h → ((held_words h).nanoseconds < 4294967296) × ((held_words h).code < 256)
+held_small None f = (omega arith, omega arith)
+held_small (Some base) f = (f, omega arith)
 
 pub held_back :
-    (h : Held) (b c d : ℕ) → HeldFits h → b < 256 → c < 256 → d < 256 →
+    (h : Option TimeBase) (b c d : ℕ) → HeldFits h → b < 256 → c < 256 → d < 256 →
     held_of (held_words h).seconds (held_words h).at (packed_of (held_words h).nanoseconds (held_words h).code b c d)
     ≡ h
-held_back Unset b c d f hb hc hd = rw (unpacked 0 0 b c d (omega arith) (omega arith) hb hc hd).four
-held_back (Set base) b c d f hb hc hd =
+held_back None b c d f hb hc hd = rw (unpacked 0 0 b c d (omega arith) (omega arith) hb hc hd).four
+held_back (Some base) b c d f hb hc hd =
     let u = unpacked base.time.1 1 b c d f (omega arith) hb hc hd in
     rw (u.four, u.half)
 
 -- ---- a leap's for a half and two bytes
-pub leap_small : (l : Leap) → LeapFits l → ((leap_words l).code < 256) × ((leap_words l).run < 256)
+pub leap_small : (l : Option Leap) → LeapFits l → ((leap_words l).code < 256) × ((leap_words l).run < 256)
 leap_small None f = (omega arith, omega arith)
-leap_small (Future run) f = (omega arith, f)
-leap_small (Past run) f = (omega arith, f)
+leap_small (Some (Future run)) f = (omega arith, f)
+leap_small (Some (Past run)) f = (omega arith, f)
 
 pub leap_back :
-    (l : Leap) (low a b : ℕ) → LeapFits l → low < 4294967296 → a < 256 → b < 256 →
+    (l : Option Leap) (low a b : ℕ) → LeapFits l → low < 4294967296 → a < 256 → b < 256 →
     leap_of (packed_of low a b (leap_words l).code (leap_words l).run) ≡ l
 leap_back None low a b f hl ha hb = rw (unpacked low a b 0 0 hl ha hb (omega arith) (omega arith)).six
-leap_back (Future run) low a b f hl ha hb =
+leap_back (Some (Future run)) low a b f hl ha hb =
     let u = unpacked low a b 1 run hl ha hb (omega arith) f in
     rw (u.six, u.seven)
-leap_back (Past run) low a b f hl ha hb =
+leap_back (Some (Past run)) low a b f hl ha hb =
     let u = unpacked low a b 2 run hl ha hb (omega arith) f in
     rw (u.six, u.seven)
 

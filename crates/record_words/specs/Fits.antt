@@ -1,35 +1,33 @@
 -- What the types of a record's fields say of the numbers that share a word. Assumes nothing.
-use Rattle.std.specs.Prelude.{ℕ, ◌<◌, ◌≡◌, List, length, get_or}
-use Rattle.clock.specs.declared.base.Held.{Held}
-use Rattle.clock.specs.declared.base.Held.TheVariants.{Unset, Set}
+use Rattle.std.specs.Prelude.{ℕ, ◌<◌, ◌≡◌, List, length, get_or, None, Option, Some}
 use Rattle.settings.specs.declared.domain_settings.DomainSettings.{DomainSettings}
 use Rattle.settings.specs.declared.domain_settings.UserBytes.{UserBytes}
-use Rattle.domain.specs.declared.Pairing.{Pairing}
-use Rattle.domain.specs.declared.Pairing.TheVariants.{Waiting, Open}
 use Rattle.domain.specs.declared.LastSync.{LastSync}
 use Rattle.domain.specs.declared.LastSync.TheVariants.{Unknown, Seen}
 use Rattle.domain.specs.declared.Sending.{Sending}
 use Rattle.domain.specs.declared.Sending.TheVariants.{Never, Open as sent, Confirmed}
-use Rattle.domain.specs.declared.Leap.{Leap}
-use Rattle.domain.specs.declared.Leap.TheVariants.{None, Future, Past}
 use Rattle.domain.specs.declared.Domain.{Domain}
+use Rattle.clock.specs.declared.base.TimeBase.{TimeBase}
+use Rattle.domain.specs.declared.Leap.{Leap}
+use Rattle.domain.specs.declared.Leap.TheVariants.{Future, Past}
+use Rattle.domain.specs.declared.Pair.{Pair}
 
-abbrev pub PairingFits : Pairing → Type 0
-PairingFits Waiting = Unit {0}
-PairingFits (Open p) = (p.seconds < 4294967296) × (p.counter < 256) × (p.user0 < 256) × (p.user1 < 256)
+abbrev pub PairingFits : Option Pair → Type 0
+PairingFits None = Unit {0}
+PairingFits (Some p) = (p.seconds < 4294967296) × (p.counter < 256) × (p.user0 < 256) × (p.user1 < 256)
 
 abbrev pub LastFits : LastSync → Type 0
 LastFits Unknown = Unit {0}
 LastFits (Seen counter row at) = (counter < 256) × (row < 256)
 
-abbrev pub HeldFits : Held → Type 0
-HeldFits Unset = Unit {0}
-HeldFits (Set base) = base.time.1 < 4294967296
+abbrev pub HeldFits : Option TimeBase → Type 0
+HeldFits None = Unit {0}
+HeldFits (Some base) = base.time.1 < 4294967296
 
-abbrev pub LeapFits : Leap → Type 0
+abbrev pub LeapFits : Option Leap → Type 0
 LeapFits None = Unit {0}
-LeapFits (Future run) = run < 256
-LeapFits (Past run) = run < 256
+LeapFits (Some (Future run)) = run < 256
+LeapFits (Some (Past run)) = run < 256
 
 abbrev pub SendingFits : Sending → Type 0
 SendingFits Never = Unit {0}

@@ -1,5 +1,6 @@
 // The parts of a record that are enums, each in words of its own: what words say, and the words of a case. A code that
 // no case has says the first case.
+// The codes of role, mode and security are numbers that C writes (include/knottgust.h): no derive gives them.
 ghost use Rattle.std.specs.Prelude.{◌≡◌};
 ghost use Rattle.record_words.specs.Parts.{
   role_of,
@@ -22,8 +23,8 @@ ghost use Rattle.record_words.specs.Parts.{
 };
 
 use crate::pack::packed;
-use clock::{GlobalTime, Held, TimeBase, VirtualLocalTime};
-use domain::{LastSync, Leap, Pair, Pairing, Sending};
+use clock::{GlobalTime, TimeBase, VirtualLocalTime};
+use domain::{LastSync, Leap, Pair, Sending};
 use frame_check::CheckMode;
 use settings::{Role, Security};
 
@@ -90,17 +91,17 @@ pub fn security_code(security: Security) -> u8
 pub fn flag_code(flag: bool) -> u8
     ensures { result ≡ flag_code flag }
 {
-    if flag { 1 } else { 0 }
+    u8::from(flag)
 }
 
 // A leap: its code, and its run.
-pub fn leap_of(word: u64) -> Leap
+pub fn leap_of(word: u64) -> Option<Leap>
     ensures { result ≡ leap_of word }
 {
     match word / 281_474_976_710_656 % 256 {
-        1 => Leap::Future((word / 72_057_594_037_927_936 % 256) as u8),
-        2 => Leap::Past((word / 72_057_594_037_927_936 % 256) as u8),
-        _ => Leap::None,
+        1 => Some(Leap::Future((word / 72_057_594_037_927_936 % 256) as u8)),
+        2 => Some(Leap::Past((word / 72_057_594_037_927_936 % 256) as u8)),
+        _ => None,
     }
 }
 
@@ -110,26 +111,26 @@ pub struct LeapWords {
     pub run: u8,
 }
 
-pub fn leap_words(leap: Leap) -> LeapWords
+pub fn leap_words(leap: Option<Leap>) -> LeapWords
     ensures { result ≡ leap_words leap }
 {
     match leap {
-        Leap::None => LeapWords { code: 0, run: 0 },
-        Leap::Future(run) => LeapWords { code: 1, run },
-        Leap::Past(run) => LeapWords { code: 2, run },
+        None => LeapWords { code: 0, run: 0 },
+        Some(Leap::Future(run)) => LeapWords { code: 1, run },
+        Some(Leap::Past(run)) => LeapWords { code: 2, run },
     }
 }
 
 // A base: its seconds, its reading, and a word with its nanoseconds and code.
-pub fn held_of(seconds: u64, at: u64, word: u64) -> Held
+pub fn held_of(seconds: u64, at: u64, word: u64) -> Option<TimeBase>
     ensures { result ≡ held_of seconds at word }
 {
     match word / 4_294_967_296 % 256 {
-        1 => Held::Set(TimeBase {
+        1 => Some(TimeBase {
             time: GlobalTime(seconds, (word % 4_294_967_296) as u32),
             at: VirtualLocalTime(at),
         }),
-        _ => Held::Unset,
+        _ => None,
     }
 }
 
@@ -141,17 +142,17 @@ pub struct HeldWords {
     pub code: u8,
 }
 
-pub fn held_words(held: Held) -> HeldWords
+pub fn held_words(held: Option<TimeBase>) -> HeldWords
     ensures { result ≡ held_words held }
 {
     match held {
-        Held::Unset => HeldWords {
+        None => HeldWords {
             seconds: 0,
             at: 0,
             nanoseconds: 0,
             code: 0,
         },
-        Held::Set(base) => {
+        Some(base) => {
             let time = base.time;
             let at = base.at;
             HeldWords {
@@ -165,18 +166,18 @@ pub fn held_words(held: Held) -> HeldWords
 }
 
 // A pair: its reading, and a word with the rest.
-pub fn pairing_of(at: u64, word: u64) -> Pairing
+pub fn pairing_of(at: u64, word: u64) -> Option<Pair>
     ensures { result ≡ pairing_of at word }
 {
     match word / 72_057_594_037_927_936 % 256 {
-        1 => Pairing::Open(Pair {
+        1 => Some(Pair {
             at: VirtualLocalTime(at),
             seconds: (word % 4_294_967_296) as u32,
             counter: (word / 4_294_967_296 % 256) as u8,
             user0: (word / 1_099_511_627_776 % 256) as u8,
             user1: (word / 281_474_976_710_656 % 256) as u8,
         }),
-        _ => Pairing::Waiting,
+        _ => None,
     }
 }
 
@@ -187,12 +188,12 @@ pub struct AtWord {
     pub word: u64,
 }
 
-pub fn pairing_words(pairing: Pairing) -> AtWord
+pub fn pairing_words(pairing: Option<Pair>) -> AtWord
     ensures { result ≡ pairing_words pairing }
 {
     match pairing {
-        Pairing::Waiting => AtWord { at: 0, word: 0 },
-        Pairing::Open(pair) => {
+        None => AtWord { at: 0, word: 0 },
+        Some(pair) => {
             let at = pair.at;
             AtWord {
                 at: at.0,

@@ -1,5 +1,5 @@
 -- Paper 01, "Refusal numbers", and paper 02, requests 8 and 5. Assumes nothing.
-use Rattle.std.specs.Prelude.{ℕ, ◌≡◌}
+use Rattle.std.specs.Prelude.{ℕ, ◌≡◌, Result, Ok, Err}
 use Rattle.refusal.specs.declared.Refusal.{Refusal}
 use Rattle.refusal.specs.declared.Refusal.TheVariants.{
   Reading,
@@ -33,6 +33,15 @@ number_of NoOpenSync = 11
 number_of NoRoom = 12
 number_of Settings = 14
 number_of RowIncomplete = 15
+
+-- ---- what a call comes to: what it found, or a refusal
+abbrev pub Outcome : Type 0 → Type 0
+Outcome A = Result A Refusal
+
+-- ---- "0 is success."
+abbrev pub outcome_number : {A : Type 0} → Outcome A → ℕ
+outcome_number (Ok found) = 0
+outcome_number (Err refusal) = number_of refusal
 
 -- ---- "A refused call returns the number and zeros; state and lent bytes stay." The exceptions to 'state stays' are 6
 -- and 15.

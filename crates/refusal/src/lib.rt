@@ -1,9 +1,9 @@
 // The refusal numbers (paper 01, "Refusal numbers", and paper 02): a named case for each, and its number.
-// Calls answer a case; the number is what a customer sees. 0 is success, and no case here.
+// Calls answer what they found, or a case; the number is what a customer sees. 0 is success, and no case here.
 #![tactic(auto)]
 
-ghost use Rattle.std.specs.Prelude.{◌≡◌};
-ghost use Rattle.refusal.specs.Numbers.{number_of};
+ghost use Rattle.std.specs.Prelude.{ℕ, ◌≡◌};
+ghost use Rattle.refusal.specs.Numbers.{number_of, outcome_number};
 
 #[derive(Clone, Copy)]
 pub enum Refusal {
@@ -57,6 +57,28 @@ impl Refusal {
             Refusal::NoRoom => 12,
             Refusal::Settings => 14,
             Refusal::RowIncomplete => 15,
+        }
+    }
+}
+
+// What a call comes to: what it found, or the case by which it is refused.
+pub type Outcome<T> = Result<T, Refusal>;
+
+// What has a number of the paper.
+pub trait Numbered {
+    ghost numbered: { Self → ℕ };
+
+    fn number(&self) -> u8
+        ensures { result ≡ numbered self.now };
+}
+
+impl<T> Numbered for Outcome<T> {
+    ghost numbered = { outcome_number };
+
+    fn number(&self) -> u8 {
+        match self {
+            Ok(_) => 0,
+            Err(refusal) => refusal.number(),
         }
     }
 }

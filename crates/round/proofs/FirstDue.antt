@@ -13,6 +13,7 @@
 --   serves_only      the places that are served fix a round
 --   first_due_only   so that no other is as `FirstDue` tells it
 -- Assumes nothing.
+use Rattle.std.specs.Prelude.{None, Option, Some, is_some}
 use Prim.Native.Nat.{ℕ, zero, suc, ◌+◌, ◌-◌, ◌%◌, ◌≤◌, ◌<◌, min}
 use mathlib.Core.Path.{◌≡◌, refl, sym, ap, ◌∙◌, subst}
 use mathlib.Core.Logic.{◌≢◌}
@@ -31,11 +32,7 @@ use Rattle.settings.specs.Domain.{absent_held}
 use Rattle.settings.specs.Node.{places}
 use Rattle.domain.specs.declared.Domain.{Domain}
 use Rattle.domain.specs.Fresh.{fresh_of}
-use Rattle.master_rules.specs.declared.due.Due.{Due}
-use Rattle.master_rules.specs.declared.due.Due.TheVariants.{At, No}
-use Rattle.master_send.specs.declared.SendAnswer.TheVariants.{NotDue}
-use Rattle.master_send.specs.declared.SendStep.{SendStep}
-use Rattle.master_send.specs.Send.{is_at, due_in, is_due, send_as, send_of}
+use Rattle.master_send.specs.Send.{due_in, is_due, send_as, send_of}
 use Rattle.domain.specs.Records.{record_at}
 use Rattle.round.specs.Turn.{turn_of, next_place, next_after}
 use Rattle.round.specs.Round.{frames_by, sent_after, Gone, before, goes, round_of}
@@ -46,6 +43,9 @@ use Rattle.round.proofs.Places.{due_true, due_sum, first_full, said_count, among
 use Rattle.round.proofs.Walk.{sum_below, walk_below, walk_apart, walk_all, walk_sum}
 use Rattle.round.proofs.Serve.{after_length, after_other, after_served}
 use Rattle.round.proofs.Serve.{Told, saying, told_of, told, told_rests, told_serves}
+use Rattle.domain.specs.declared.DomainStep.{DomainStep}
+use Rattle.frame.specs.declared.values.Sync.{Sync}
+use Rattle.master_rules.specs.declared.due.Due.{Due}
 
 abbrev none : Domain
 none = fresh_of 0 absent_held
@@ -78,7 +78,7 @@ module _ (t : VirtualLocalTime) where
     ws = walk places k (next_place places at)
 
     -- the turn s of the record at this place, and then the turns that are left
-    abbrev Turned : SendStep → Type 0
+    abbrev Turned : DomainStep (Option Sync) → Type 0
     Turned s =
         before (frames_by s.answer d.settings.ids)
         (goes k (next_place places at) (sent_after s.answer sent) most t (set ds at s.domain)
@@ -87,27 +87,27 @@ module _ (t : VirtualLocalTime) where
 
     idle :
         told_by (most - sent) (at ∷ ws) ds next ≡ told_by (most - sent) ws ds next →
-        Turned (record { answer = NotDue; domain = d })
+        Turned (record { answer = None; domain = d })
     idle e =
         ap (λ (l : List Domain). goes k (next_place places at) sent most t l next) (set-get_or ds at none)
         ∙ ih sent ds next ∙ sym (ap gone e)
 
     -- what is told once this record has sent by x
-    abbrev Sends : Due → Type 0
+    abbrev Sends : Option Due → Type 0
     Sends x =
         told_by (suc (most - (sent + 1))) (at ∷ ws) ds next
         ≡ saying (frames_by (send_as x d t).answer d.settings.ids)
         (told_by (most - (sent + 1)) ws (set ds at (send_as x d t).domain) (next_place places at))
 
-    by_due : (x : Due) → due_in d t ≡ x → sent < most → Turned (send_as x d t)
-    by_due No e m = idle (told_rests places none due serve say (most - sent) at ws ds next (ap is_at e))
-    by_due (At s ns) e m =
+    by_due : (x : Option Due) → due_in d t ≡ x → sent < most → Turned (send_as x d t)
+    by_due None e m = idle (told_rests places none due serve say (most - sent) at ws ds next (ap is_some e))
+    by_due (Some x) e m =
         let more = most - (sent + 1) in
         let left : most - sent ≡ suc more = omega arith in
         let others = (walk_apart places (suc k) at h a).0 in
-        let sends = subst Sends e (told_serves places none due serve say more at ws ds next (ap is_at e) others) in
-        let frames = frames_by (send_as (At s ns) d t).answer d.settings.ids in
-        let after = set ds at (send_as (At s ns) d t).domain in
+        let sends = subst Sends e (told_serves places none due serve say more at ws ds next (ap is_some e) others) in
+        let frames = frames_by (send_as (Some x) d t).answer d.settings.ids in
+        let after = set ds at (send_as (Some x) d t).domain in
         let here = ap (next_place places) (mod-eq_of_lt a) in
         ap (λ (n : ℕ). before frames (goes k (next_place places at) (sent + 1) most t after n)) here
         ∙ ap (before frames) (ih (sent + 1) after (next_place places at))
@@ -154,10 +154,10 @@ module _ (ds : List Domain) (first : ℕ) (t : VirtualLocalTime) (most : ℕ) wh
 -- ---- what is served
 
 one_by :
-    (x : Due) (d : Domain) (t : VirtualLocalTime) (ids : DataIds) → is_at x ≡ true →
+    (x : Option Due) (d : Domain) (t : VirtualLocalTime) (ids : DataIds) → is_some x ≡ true →
     length (frames_by (send_as x d t).answer ids) ≡ 1
-one_by (At seconds nanoseconds) d t ids e = refl
-one_by No d t ids e = cc
+one_by (Some due) d t ids e = refl
+one_by None d t ids e = cc
 
 frame_one : (d : Domain) (t : VirtualLocalTime) → is_due d t ≡ true → length (frame_by d t) ≡ 1
 frame_one d t = one_by (due_in d t) d t d.settings.ids

@@ -4,6 +4,7 @@
 --   onward         and still after one turn
 --   at_end         so that with no turn left the round is done
 -- Assumes nothing.
+use Rattle.std.specs.Prelude.{None, Option, Some}
 use Prim.Native.Nat.{ℕ, zero, suc, ◌+◌, ◌≤◌}
 use mathlib.Core.Path.{◌≡◌, refl, sym, ap, ◌∙◌}
 use mathlib.Core.List.{List, ◌++◌}
@@ -15,12 +16,11 @@ use Rattle.clock.specs.declared.reading.VirtualLocalTime.{VirtualLocalTime}
 use Rattle.frame.specs.declared.data_ids.DataIds.{DataIds}
 use Rattle.settings.specs.Node.{places}
 use Rattle.domain.specs.declared.Domain.{Domain}
-use Rattle.master_send.specs.declared.SendAnswer.{SendAnswer}
-use Rattle.master_send.specs.declared.SendAnswer.TheVariants.{Sent, NotDue}
-use Rattle.master_send.specs.declared.SendStep.{SendStep}
 use Rattle.domain.specs.Records.{record_at}
 use Rattle.round.specs.Turn.{turn_of, next_place, next_after}
 use Rattle.round.specs.Round.{frames_by, sent_after, Gone, before, goes, round_of, pasted, RoundIn}
+use Rattle.domain.specs.declared.DomainStep.{DomainStep}
+use Rattle.frame.specs.declared.values.Sync.{Sync}
 
 -- ---- one turn
 pub goes_turn :
@@ -34,21 +34,21 @@ unfolding goes
 goes_turn k at sent most t ds next = refl
 
 pub pasted_turn :
-    (a : SendAnswer) (ids : DataIds) (sent : ℕ) (frames : List (List ℕ)) (out : List ℕ) →
+    (a : Option Sync) (ids : DataIds) (sent : ℕ) (frames : List (List ℕ)) (out : List ℕ) →
     pasted sent (frames_by a ids ++ frames) out
     ≡ pasted (sent_after a sent) frames (pasted sent (frames_by a ids) out)
-pasted_turn (Sent s) ids sent frames out = refl
-pasted_turn NotDue ids sent frames out = refl
+pasted_turn (Some s) ids sent frames out = refl
+pasted_turn None ids sent frames out = refl
 
 pub counted_turn :
-    (a : SendAnswer) (ids : DataIds) (sent : ℕ) (frames : List (List ℕ)) →
+    (a : Option Sync) (ids : DataIds) (sent : ℕ) (frames : List (List ℕ)) →
     sent_after a sent + length frames ≡ sent + length (frames_by a ids ++ frames)
-counted_turn (Sent s) ids sent frames = omega arith
-counted_turn NotDue ids sent frames = refl
+counted_turn (Some s) ids sent frames = omega arith
+counted_turn None ids sent frames = refl
 
-pub sent_least : (a : SendAnswer) (sent : ℕ) → sent_after a sent ≤ sent + 1
-sent_least (Sent s) sent = omega arith
-sent_least NotDue sent = omega arith
+pub sent_least : (a : Option Sync) (sent : ℕ) → sent_after a sent ≤ sent + 1
+sent_least (Some s) sent = omega arith
+sent_least None sent = omega arith
 
 -- ---- what is left decides
 pub record Rest
@@ -60,11 +60,11 @@ pub record Rest
   pub bytes : pasted sent (goes k at sent most t ds next).frames out ≡ pasted 0 whole.frames first
 
 module _ (whole : Gone) (first : List ℕ) (most : ℕ) (t : VirtualLocalTime) (k at sent : ℕ) (ds : List Domain)
-    (next : ℕ) (out : List ℕ) (s : SendStep) (d : Domain) (ids : DataIds) (sent' next' : ℕ) (out' : List ℕ)
+    (next : ℕ) (out : List ℕ) (s : DomainStep (Option Sync)) (d : Domain) (ids : DataIds) (sent' next' : ℕ) (out' : List ℕ)
     (es : s ≡ turn_of (ltb sent most) d t) (ed : d ≡ record_at ds at) (ei : ids ≡ d.settings.ids)
     (ec : sent' ≡ sent_after s.answer sent) (eo : out' ≡ pasted sent (frames_by s.answer ids) out)
     (en : next' ≡ next_after s.answer at next) where
-  abbrev one : SendStep
+  abbrev one : DomainStep (Option Sync)
   one = turn_of (ltb sent most) (record_at ds at) t
 
   abbrev left : Gone

@@ -1,26 +1,25 @@
 -- Paper 01, "A master's domain": main cycle. "Starting after the domain served last (from 0 in a fresh
 -- node) and going round once, the first S due domains send." Assumes nothing.
-use Rattle.std.specs.Prelude.{ℕ, zero, suc, ◌+◌, ◌*◌, ◌%◌, ◌≡◌, cond, List, [], ◌∷◌, ◌++◌, ltb, length, set}
+use Rattle.std.specs.Prelude.{ℕ, zero, suc, ◌+◌, ◌*◌, ◌%◌, ◌≡◌, cond, List, [], ◌∷◌, ◌++◌, ltb, length, set, None, Option, Some}
 use Rattle.clock.specs.declared.reading.VirtualLocalTime.{VirtualLocalTime}
 use Rattle.frame.specs.declared.data_ids.DataIds.{DataIds}
 use Rattle.frame.specs.declared.values.Frame.TheVariants.{Sync as sync}
 use Rattle.frame_write.specs.Write.{bytes_of, is_room, written_in}
 use Rattle.settings.specs.Node.{places}
 use Rattle.domain.specs.declared.Domain.{Domain}
-use Rattle.master_send.specs.declared.SendAnswer.{SendAnswer}
-use Rattle.master_send.specs.declared.SendAnswer.TheVariants.{Sent, NotDue}
 use Rattle.round.specs.Turn.{turn_of, next_place, next_after}
 use Rattle.round.specs.declared.Round.{Round}
 use Rattle.domain.specs.Records.{record_at}
+use Rattle.frame.specs.declared.values.Sync.{Sync}
 
 -- ---- what a turn sends: its frame, or nothing
-abbrev pub frames_by : SendAnswer → DataIds → List (List ℕ)
-frames_by (Sent s) ids = bytes_of ids (sync s) ∷ []
-frames_by NotDue ids = []
+abbrev pub frames_by : Option Sync → DataIds → List (List ℕ)
+frames_by (Some s) ids = bytes_of ids (sync s) ∷ []
+frames_by None ids = []
 
-abbrev pub sent_after : SendAnswer → ℕ → ℕ
-sent_after (Sent s) sent = sent + 1
-sent_after NotDue sent = sent
+abbrev pub sent_after : Option Sync → ℕ → ℕ
+sent_after (Some s) sent = sent + 1
+sent_after None sent = sent
 
 -- ---- The records after some turns, where the next round starts, and the frames sent.
 pub record Gone : Type 0 where
@@ -52,7 +51,7 @@ pasted sent [] out = out
 pasted sent (frame ∷ frames) out = pasted (sent + 1) frames (put_at frame sent out)
 
 pub record PutAt
-    (answer : SendAnswer) (ids : DataIds) (sent : ℕ) (before : List ℕ) (r : ℕ) (after : List ℕ) : Type 0 where
+    (answer : Option Sync) (ids : DataIds) (sent : ℕ) (before : List ℕ) (r : ℕ) (after : List ℕ) : Type 0 where
   pub count : r ≡ sent_after answer sent
   pub bytes : after ≡ pasted sent (frames_by answer ids) before
 

@@ -12,9 +12,8 @@ ghost use Rattle.round.specs.Round.{PutAt, RoundIn};
 use crate::turns::PLACES;
 use clock::VirtualLocalTime;
 use domain::Domain;
-use frame::{DataIds, Frame};
+use frame::{DataIds, Frame, Sync};
 use frame_write::write_frame;
-use master_send::SendAnswer;
 use settings::NodeSettings;
 pub use turns::{next_after, turn};
 
@@ -39,19 +38,14 @@ pub fn go_round(
     let mut at = (first % PLACES) as usize;
     let mut next = first;
     let mut sent = 0;
-    let mut turns: usize = 0;
-    while turns < NodeSettings::DOMAINS {
+    for turns in 0..NodeSettings::DOMAINS {
         let record = records[at];
-        let settings = record.settings;
-        let ids = settings.ids;
         let step = turn(record, t, sent < (most as usize));
         let answer = step.answer;
-        let after = step.domain;
-        records[at] = after;
-        sent = put(answer, ids, out, sent);
+        records[at] = step.domain;
+        sent = put(answer, record.settings.ids, out, sent);
         next = next_after(answer, at as u8, next);
         at = (at + 1) % NodeSettings::DOMAINS;
-        turns += 1;
     }
     Round {
         domains: records,
@@ -61,15 +55,15 @@ pub fn go_round(
 }
 
 // Writes what a turn sent behind the frames that are there, and counts it.
-fn put(answer: SendAnswer, ids: DataIds, out: &mut [u8], sent: usize) -> usize
+fn put(answer: Option<Sync>, ids: DataIds, out: &mut [u8], sent: usize) -> usize
     requires { sent ≤ places }
     ensures { PutAt answer ids sent out.old result out.new }
 {
     match answer {
-        SendAnswer::Sent(sync) => {
-            write_frame(Frame::Sync(sync), ids, out, 8 * sent);
+        Some(sync) => {
+            let _ = write_frame(Frame::Sync(sync), ids, out, 8 * sent);
             sent + 1
         }
-        SendAnswer::NotDue => sent,
+        None => sent,
     }
 }

@@ -9,16 +9,25 @@ use bench_step::bench_step;
 use node::Node;
 use settings::{DomainSettings, NodeSettings};
 use std::io::Read;
-use text::lines::put_cut;
-use text::pieces::{Filled, keep_rest, next_item, refill, say_unread, with_room, write_out};
-use trial_step::item::item_length;
+use text::Out;
+use text::pieces::{keep_rest, next_item, refill, say_unread, with_room, write_out};
 use trial_step::trial_step;
 
-#[derive(Clone, Copy)]
-pub enum Program {
-    Bench,
-    Trial,
+// What a program makes of its items.
+pub trait Program {
+    // The settings of the node that a run begins with.
+    fn first_settings(&self) -> NodeSettings;
+
+    // How many bytes the item has that begins here, one at least; more than there are where it is not whole.
+    fn item_length(&self, bytes: &[u8]) -> usize;
+
+    // The item's line, and the node after it.
+    fn step(&self, node: Node, item: u64, bytes: &[u8], out: &mut Out) -> Step;
 }
+
+pub struct Bench;
+
+pub struct Trial;
 
 // A record of the bench.
 const RECORD: usize = 20;
@@ -26,173 +35,131 @@ const RECORD: usize = 20;
 // No line is longer (`line_fits`).
 const LINE: usize = 1088;
 
-// How many bytes are read and written at once at most.
+// How many bytes are read and written at once at most. The two pieces are arrays with a length beside: no heap.
 const PIECE: usize = 65_536;
 
-#[derive(Clone, Copy)]
+impl Program for Bench {
+    fn first_settings(&self) -> NodeSettings {
+        bench_settings()
+    }
+
+    fn item_length(&self, _bytes: &[u8]) -> usize {
+        RECORD
+    }
+
+    fn step(&self, node: Node, item: u64, bytes: &[u8], out: &mut Out) -> Step {
+        bench_step(node, item, bytes, out)
+    }
+}
+
+impl Program for Trial {
+    // Before the first block all domains are absent.
+    fn first_settings(&self) -> NodeSettings {
+        NodeSettings {
+            syncs_per_cycle: 1,
+            domains: [DomainSettings::absent(); 16],
+        }
+    }
+
+    fn item_length(&self, bytes: &[u8]) -> usize {
+        trial_step::item::item_length(bytes)
+    }
+
+    fn step(&self, node: Node, item: u64, bytes: &[u8], out: &mut Out) -> Step {
+        trial_step(node, item, bytes, out)
+    }
+}
+
+#[derive(Drop)]
 struct Run {
     node: Node,
     // The number of the next item.
     item: u64,
-    // How many bytes of input are held, and how many of them are taken.
+    // How many bytes are held that make no whole item.
     held: usize,
-    used: usize,
-    // How many bytes of lines wait to be written.
-    at: usize,
-    // Whether another whole item may be held.
-    more: bool,
     goes_on: bool,
 }
 
-pub fn run_on_input(rt: &(impl Input + Print + Eprint), program: Program) {
+pub fn run_on_input(rt: &(impl Input + Print + Eprint), program: &impl Program) {
     let mut from = rt.reader();
     let mut input = [0u8; PIECE];
     let mut out = [0u8; PIECE];
-    run_all(rt, &mut from, program, &mut input, &mut out);
-}
-
-// A proved loop has to end, and nothing says that the input does: no run uses these turns up.
-fn run_all(
-    rt: &(impl Print + Eprint),
-    from: &mut impl Read,
-    program: Program,
-    input: &mut [u8],
-    out: &mut [u8],
-) {
-    let mut run = fresh_run(program);
-    let mut turns = u64::MAX;
-    while turns > 0 {
+    let mut run = Run::new(program);
+    // A proved loop has to end, and nothing says that the input does: no run uses these turns up.
+    for _ in 0..u64::MAX {
         if !run.goes_on {
             return;
         }
-        run = read_on(rt, from, program, run, input, out);
-        turns -= 1;
+        run.read_on(rt, &mut from, program, &mut input, &mut out);
     }
 }
 
-fn fresh_run(program: Program) -> Run {
-    let new = Node::new(first_settings(program));
-    let node = new.node;
-    Run {
-        node,
-        item: 1,
-        held: 0,
-        used: 0,
-        at: 0,
-        more: true,
-        goes_on: true,
-    }
-}
-
-// The bench's settings are fixed; before the trial's first block all domains are absent.
-fn first_settings(program: Program) -> NodeSettings {
-    match program {
-        Program::Bench => bench_settings(),
-        Program::Trial => NodeSettings {
-            syncs_per_cycle: 1,
-            domains: [DomainSettings::absent(); 16],
-        },
-    }
-}
-
-// Reads once, answers the whole items, and keeps the rest.
-fn read_on(
-    rt: &(impl Print + Eprint),
-    from: &mut impl Read,
-    program: Program,
-    run: Run,
-    input: &mut [u8],
-    out: &mut [u8],
-) -> Run {
-    let mut next = run;
-    match refill(from, input, run.held) {
-        Filled::Failed => {
-            say_unread(rt);
-            next.goes_on = false;
+impl Run {
+    fn new(program: &impl Program) -> Run {
+        let new = Node::new(program.first_settings());
+        Run {
+            node: new.node,
+            item: 1,
+            held: 0,
+            goes_on: true,
         }
-        Filled::End => {
-            if run.held > 0 {
-                let end = put_cut(out, 0, run.item);
-                write_out(rt, out, end);
+    }
+
+    // Reads once, answers the whole items, and keeps the rest.
+    fn read_on(
+        &mut self,
+        rt: &(impl Print + Eprint),
+        from: &mut impl Read,
+        program: &impl Program,
+        input: &mut [u8],
+        out: &mut [u8],
+    ) {
+        match refill(from, input, self.held) {
+            Err(_) => {
+                say_unread(rt);
+                self.goes_on = false;
             }
-            next.goes_on = false;
-        }
-        Filled::Holds(held) => {
-            next.held = held;
-            next.more = true;
-            next = take_items(rt, program, next, input, out);
-            if !write_out(rt, out, next.at) {
-                next.goes_on = false;
+            Ok(None) => {
+                if self.held > 0 {
+                    let mut line = Out { bytes: out, at: 0 };
+                    line.put_cut(self.item);
+                    write_out(rt, &line);
+                }
+                self.goes_on = false;
             }
-            next.held = keep_rest(input, next.used, held);
-            next.used = 0;
-            next.at = 0;
+            Ok(Some(held)) => {
+                let used = self.take_items(rt, program, &input[..held.min(input.len())], out);
+                self.held = keep_rest(input, used, held);
+            }
         }
     }
-    next
-}
 
-// Every whole item that is held, in order, as long as the run goes on. An item has a byte at least.
-fn take_items(rt: &impl Print, program: Program, run: Run, input: &[u8], out: &mut [u8]) -> Run {
-    let mut next = run;
-    let mut left = run.held;
-    while left > 0 {
-        if !next.more {
-            return next;
+    // Every whole item, in order, as long as the run goes on, and their lines. Answers how many bytes they have.
+    fn take_items(
+        &mut self,
+        rt: &impl Print,
+        program: &impl Program,
+        input: &[u8],
+        out: &mut [u8],
+    ) -> usize {
+        let mut rest = input;
+        let mut lines = Out { bytes: out, at: 0 };
+        for _ in 0..input.len() {
+            let length = program.item_length(rest);
+            if rest.len() < length || !self.goes_on {
+                break;
+            }
+            let (bytes, others) = rest.split_at(length);
+            with_room(rt, &mut lines, LINE);
+            let step = program.step(self.node, self.item, bytes, &mut lines);
+            self.node = step.node;
+            self.item = next_item(self.item);
+            self.goes_on = step.goes_on;
+            rest = others;
         }
-        next = take_item(rt, program, next, input, out);
-        left -= 1;
-    }
-    next
-}
-
-// The item that begins at the first byte not taken, where it is whole.
-fn take_item(rt: &impl Print, program: Program, run: Run, input: &[u8], out: &mut [u8]) -> Run {
-    let mut next = run;
-    next.more = false;
-    let used = run.used;
-    let held = run.held;
-    if input.len() < held {
-        return next;
-    }
-    if held < used {
-        return next;
-    }
-    let length = length_of(program, &input[used..held]);
-    if held - used < length {
-        return next;
-    }
-    let at = with_room(rt, out, run.at, LINE);
-    next = step(program, run, &input[used..used + length], out, at);
-    next.used = used + length;
-    next
-}
-
-fn length_of(program: Program, bytes: &[u8]) -> usize {
-    match program {
-        Program::Bench => RECORD,
-        Program::Trial => item_length(bytes),
-    }
-}
-
-// The run after an item, which is not yet counted as taken.
-fn step(program: Program, run: Run, bytes: &[u8], out: &mut [u8], at: usize) -> Run {
-    let node = run.node;
-    match program {
-        Program::Bench => stepped(run, bench_step(node, run.item, bytes, out, at)),
-        Program::Trial => stepped(run, trial_step(node, run.item, bytes, out, at)),
-    }
-}
-
-fn stepped(run: Run, step: Step) -> Run {
-    let node = step.node;
-    Run {
-        node,
-        item: next_item(run.item),
-        held: run.held,
-        used: run.used,
-        at: step.at,
-        more: step.goes_on,
-        goes_on: step.goes_on,
+        if !write_out(rt, &lines) {
+            self.goes_on = false;
+        }
+        input.len() - rest.len()
     }
 }

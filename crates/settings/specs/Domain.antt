@@ -85,3 +85,7 @@ held_as Master s = master_held s
 
 abbrev pub held_of : DomainSettings → DomainSettings
 held_of s = held_as s.role s
+
+-- ---- settings that no node takes, out of range: a slave with J 0
+abbrev pub no_settings : DomainSettings
+no_settings = slave_held absent_held

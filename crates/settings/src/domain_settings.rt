@@ -2,6 +2,7 @@
 ghost use Rattle.std.specs.Prelude.{◌≡◌};
 ghost use Rattle.settings.specs.Domain.{
   absent_held,
+  no_settings,
   slave_held,
   master_held,
   held_of,
@@ -84,8 +85,7 @@ impl DomainSettings {
     pub fn held(self) -> DomainSettings
         ensures { result ≡ held_of self }
     {
-        let role = self.role;
-        match role {
+        match self.role {
             Role::Absent => DomainSettings::absent(),
             Role::Slave => self.slave_held(),
             Role::Master => self.master_held(),
@@ -117,50 +117,42 @@ impl DomainSettings {
         }
     }
 
+    // Settings that no node takes: a slave with J 0.
+    pub fn no_settings() -> DomainSettings
+        ensures { result ≡ no_settings }
+    {
+        DomainSettings::absent().slave_held()
+    }
+
     fn slave_held(self) -> DomainSettings
         ensures { result ≡ slave_held self }
     {
-        let ids = self.ids;
-        let mode = self.mode;
         DomainSettings {
             follow_up_time: self.follow_up_time,
             loss_time: self.loss_time,
             future_threshold: self.future_threshold,
             past_threshold: self.past_threshold,
-            period: 0,
-            confirmation_time: 0,
-            ids,
+            ids: self.ids,
             role: Role::Slave,
-            mode,
+            mode: self.mode,
             jump_width: self.jump_width,
             hysteresis: self.hysteresis,
             clear_count: self.clear_count,
-            security: Security::Plain,
-            user: UserBytes(0, 0, 0),
+            ..DomainSettings::absent()
         }
     }
 
     fn master_held(self) -> DomainSettings
         ensures { result ≡ master_held self }
     {
-        let ids = self.ids;
-        let security = self.security;
-        let user = self.user;
         DomainSettings {
-            follow_up_time: 0,
-            loss_time: 0,
-            future_threshold: 0,
-            past_threshold: 0,
             period: self.period,
             confirmation_time: self.confirmation_time,
-            ids,
+            ids: self.ids,
             role: Role::Master,
-            mode: CheckMode::Validated,
-            jump_width: 0,
-            hysteresis: 0,
-            clear_count: 0,
-            security,
-            user,
+            security: self.security,
+            user: self.user,
+            ..DomainSettings::absent()
         }
     }
 }

@@ -8,5 +8,5 @@ pub mod node_settings;
 pub mod ranges;
 
 pub use domain_settings::{DomainSettings, Role, Security, UserBytes};
-pub use node_settings::{NodeSettings, Verdict};
+pub use node_settings::NodeSettings;
 pub use ranges::is_good;

@@ -9,8 +9,7 @@ use crate::{DomainSettings, Role};
 pub fn is_good(settings: DomainSettings) -> bool
     ensures { result ≡ is_good settings }
 {
-    let role = settings.role;
-    match role {
+    match settings.role {
         Role::Absent => true,
         Role::Slave => slave_good(settings),
         Role::Master => master_good(settings),
@@ -20,58 +19,33 @@ pub fn is_good(settings: DomainSettings) -> bool
 fn slave_good(settings: DomainSettings) -> bool
     ensures { result ≡ slave_good settings }
 {
-    if settings.jump_width < DomainSettings::JUMP_WIDTH_MIN {
-        return false;
-    }
-    if DomainSettings::JUMP_WIDTH_MAX < settings.jump_width {
-        return false;
-    }
-    if DomainSettings::HYSTERESIS_MAX < settings.hysteresis {
-        return false;
-    }
-    if settings.follow_up_time < DomainSettings::FOLLOW_UP_TIME_MIN {
-        return false;
-    }
-    if DomainSettings::FOLLOW_UP_TIME_MAX < settings.follow_up_time {
-        return false;
-    }
-    if settings.loss_time <= settings.follow_up_time {
-        return false;
-    }
-    if DomainSettings::LOSS_TIME_MAX < settings.loss_time {
-        return false;
-    }
-    leaps_good(settings)
+    let jump_widths = DomainSettings::JUMP_WIDTH_MIN..=DomainSettings::JUMP_WIDTH_MAX;
+    let follow_up_times = DomainSettings::FOLLOW_UP_TIME_MIN..=DomainSettings::FOLLOW_UP_TIME_MAX;
+    jump_widths.contains(&settings.jump_width)
+        && settings.hysteresis <= DomainSettings::HYSTERESIS_MAX
+        && follow_up_times.contains(&settings.follow_up_time)
+        && settings.follow_up_time < settings.loss_time
+        && settings.loss_time <= DomainSettings::LOSS_TIME_MAX
+        && leaps_good(settings)
 }
 
 // The leap thresholds, and the count that clears a leap bit.
 fn leaps_good(settings: DomainSettings) -> bool
     ensures { result ≡ leaps_good settings }
 {
-    if DomainSettings::THRESHOLD_MAX < settings.future_threshold {
-        return false;
-    }
-    if DomainSettings::THRESHOLD_MAX < settings.past_threshold {
-        return false;
-    }
-    DomainSettings::CLEAR_COUNT_MIN <= settings.clear_count
+    settings.future_threshold <= DomainSettings::THRESHOLD_MAX
+        && settings.past_threshold <= DomainSettings::THRESHOLD_MAX
+        && DomainSettings::CLEAR_COUNT_MIN <= settings.clear_count
 }
 
 fn master_good(settings: DomainSettings) -> bool
     ensures { result ≡ master_good settings }
 {
     let confirmation_time = settings.confirmation_time as u64;
-    if settings.period < DomainSettings::PERIOD_MIN {
-        return false;
-    }
-    if DomainSettings::PERIOD_MAX < settings.period {
-        return false;
-    }
-    if confirmation_time < DomainSettings::CONFIRMATION_TIME_MIN {
-        return false;
-    }
-    if DomainSettings::CONFIRMATION_TIME_MAX < confirmation_time {
-        return false;
-    }
-    confirmation_time < settings.period
+    let periods = DomainSettings::PERIOD_MIN..=DomainSettings::PERIOD_MAX;
+    let confirmation_times =
+        DomainSettings::CONFIRMATION_TIME_MIN..=DomainSettings::CONFIRMATION_TIME_MAX;
+    periods.contains(&settings.period)
+        && confirmation_times.contains(&confirmation_time)
+        && confirmation_time < settings.period
 }

@@ -5,8 +5,7 @@ use test_line::{byte, hex, number, small, word};
 
 // The role, and the fields that have a range.
 pub fn numbers(rt: &impl Print, s: DomainSettings) {
-    let role = s.role;
-    named(rt, role);
+    named(rt, s.role);
     word(rt, b" J");
     small(rt, s.jump_width);
     word(rt, b" H");
@@ -29,19 +28,13 @@ pub fn numbers(rt: &impl Print, s: DomainSettings) {
 
 // The other fields.
 pub fn others(rt: &impl Print, s: DomainSettings) {
-    let ids = s.ids;
-    let sync = ids.sync;
-    let fup = ids.fup;
-    let mode = s.mode;
-    let security = s.security;
-    let user = s.user;
-    moded(rt, mode);
-    kind(rt, security);
-    user_bytes(rt, user);
+    moded(rt, s.mode);
+    kind(rt, s.security);
+    user_bytes(rt, s.user);
     word(rt, b" sync");
-    list(rt, sync);
+    list(rt, s.ids.sync);
     word(rt, b" fup");
-    list(rt, fup);
+    list(rt, s.ids.fup);
 }
 
 fn named(rt: &impl Print, role: Role) {

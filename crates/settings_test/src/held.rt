@@ -7,12 +7,17 @@ use settings::{DomainSettings, Role, Security, UserBytes};
 use test_line as line;
 
 pub fn roles(rt: &impl Print) {
-    held(rt, Role::Slave, CheckMode::Validated, Security::Secured);
-    held(rt, Role::Slave, CheckMode::NotValidated, Security::Secured);
-    held(rt, Role::Slave, CheckMode::Ignored, Security::Secured);
-    held(rt, Role::Slave, CheckMode::Optional, Security::Secured);
-    held(rt, Role::Master, CheckMode::Optional, Security::Plain);
-    held(rt, Role::Master, CheckMode::Optional, Security::Secured);
+    for mode in [
+        CheckMode::Validated,
+        CheckMode::NotValidated,
+        CheckMode::Ignored,
+        CheckMode::Optional,
+    ] {
+        held(rt, Role::Slave, mode, Security::Secured);
+    }
+    for security in [Security::Plain, Security::Secured] {
+        held(rt, Role::Master, CheckMode::Optional, security);
+    }
     held(rt, Role::Absent, CheckMode::Optional, Security::Secured);
     line::word(rt, b"absent");
     whole(rt, DomainSettings::absent());

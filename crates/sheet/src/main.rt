@@ -8,7 +8,8 @@ use node::Node;
 use sheet_step::report::put_report;
 use sheet_step::{Account, take_records};
 use std::io::Read;
-use text::pieces::{Filled, keep_rest, refill, say_unread, write_out};
+use text::Out;
+use text::pieces::{keep_rest, refill, say_unread, write_out};
 
 // How many bytes are read and written at once at most.
 const PIECE: usize = 65_536;
@@ -25,75 +26,64 @@ fn main(rt: HostRuntime) {
     let mut from = rt.reader();
     let mut input = [0u8; PIECE];
     let mut out = [0u8; PIECE];
-    run_all(&rt, &mut from, &mut input, &mut out);
-}
-
-// A proved loop has to end, and nothing says that the input does: no run uses these turns up.
-fn run_all(rt: &(impl Print + Eprint), from: &mut impl Read, input: &mut [u8], out: &mut [u8]) {
-    let mut run = fresh_run();
-    let mut turns = u64::MAX;
-    while turns > 0 {
+    let mut run = Run::new();
+    // A proved loop has to end, and nothing says that the input does: no run uses these turns up.
+    for _ in 0..u64::MAX {
         if !run.goes_on {
             return;
         }
-        run = read_on(rt, from, run, input, out);
-        turns -= 1;
+        run.read_on(&rt, &mut from, &mut input, &mut out);
     }
 }
 
-fn fresh_run() -> Run {
-    let new = Node::new(bench_settings());
-    Run {
-        account: Account::new(new.node),
-        held: 0,
-        goes_on: true,
-    }
-}
-
-// Reads once and takes the whole records; at the end of the input, or at a bad record, reports. Where reading fails
-// there is no sheet: it would hide records.
-fn read_on(
-    rt: &(impl Print + Eprint),
-    from: &mut impl Read,
-    run: Run,
-    input: &mut [u8],
-    out: &mut [u8],
-) -> Run {
-    match refill(from, input, run.held) {
-        Filled::Failed => {
-            say_unread(rt);
-            ended(run)
+// Like the run of `runs`, and apart from it: a trait for both is no plainer, since there a read writes the lines of
+// items, and here it writes none.
+impl Run {
+    fn new() -> Run {
+        let new = Node::new(bench_settings());
+        Run {
+            account: Account::new(new.node),
+            held: 0,
+            goes_on: true,
         }
-        Filled::End => report(rt, run, out),
-        Filled::Holds(held) => taken(rt, run, input, held, out),
     }
-}
 
-fn ended(run: Run) -> Run {
-    let mut next = run;
-    next.goes_on = false;
-    next
-}
-
-fn report(rt: &impl Print, run: Run, out: &mut [u8]) -> Run {
-    let end = put_report(out, 0, run.account, run.held);
-    write_out(rt, out, end);
-    ended(run)
-}
-
-// The whole records among the first `held` bytes, and the rest in front.
-fn taken(rt: &impl Print, run: Run, input: &mut [u8], held: usize, out: &mut [u8]) -> Run {
-    if input.len() < held {
-        return ended(run);
+    // Reads once and takes the whole records; at the end of the input, or at a bad record, reports. Where reading
+    // fails there is no sheet: it would hide records.
+    fn read_on(
+        &mut self,
+        rt: &(impl Print + Eprint),
+        from: &mut impl Read,
+        input: &mut [u8],
+        out: &mut [u8],
+    ) {
+        match refill(from, input, self.held) {
+            Err(_) => {
+                say_unread(rt);
+                self.goes_on = false;
+            }
+            Ok(None) => self.report(rt, out),
+            Ok(Some(held)) => {
+                let held = held.min(input.len());
+                self.take(rt, &mut input[..held], out);
+            }
+        }
     }
-    let account = take_records(run.account, &input[..held]);
-    let next = Run {
-        account,
-        held: keep_rest(input, held - held % Account::RECORD, held),
-        goes_on: true,
-    };
-    if account.bad {
-        return report(rt, next, out);
+
+    fn report(&mut self, rt: &impl Print, out: &mut [u8]) {
+        let mut text = Out { bytes: out, at: 0 };
+        put_report(&mut text, self.account, self.held);
+        write_out(rt, &text);
+        self.goes_on = false;
     }
-    next
+
+    // The whole records of what is held, and the rest in front.
+    fn take(&mut self, rt: &impl Print, input: &mut [u8], out: &mut [u8]) {
+        let held = input.len();
+        self.account = take_records(self.account, input);
+        self.held = keep_rest(input, held - held % Account::RECORD, held);
+        if self.account.bad {
+            self.report(rt, out);
+        }
+    }
 }

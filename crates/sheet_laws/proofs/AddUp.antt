@@ -12,13 +12,13 @@ use lib.Dec.{eqb, ltb}
 use lib.ListN.{length, set, drop, replicate, drop_of_length-le}
 use lib.Seq.{drop-cons}
 use borrow.Author.Tests.{eqb-true, ltb-true}
+use Rattle.std.specs.Prelude.{Option, Some, None}
 use Rattle.promise.proofs.Tests.{either, either_told}
 use Rattle.settings.specs.declared.domain_settings.DomainSettings.{DomainSettings}
 use Rattle.settings.specs.declared.domain_settings.Role.{Role}
 use Rattle.settings.specs.declared.domain_settings.Role.TheVariants.{Absent, Slave, Master}
 use Rattle.settings.specs.Node.{places}
 use Rattle.domain.specs.Records.{record_at}
-use Rattle.slave_answer.specs.declared.FrameAnswer.{FrameAnswer}
 use Rattle.frame_read.specs.Read.{named_domain}
 use Rattle.node.specs.declared.Node.{Node}
 use Rattle.node.specs.Frame.{addressed_by, node_frame_of}
@@ -26,7 +26,6 @@ use Rattle.node_call.specs.Calls.{Call, frame, read, set as set_call, cycle, con
 use Rattle.node_laws.proofs.Stays.{settings_stay}
 use Rattle.sheet_tally.specs.declared.Tally.{Tally}
 use Rattle.sheet_tally.specs.declared.entry.Entry.{Entry}
-use Rattle.sheet_tally.specs.declared.entry.Entry.TheVariants.{Of, Other}
 use Rattle.sheet_tally.specs.declared.sheet.Sheet.{Sheet}
 use Rattle.sheet_tally.specs.Tally.{columns, column_of, no_tally, counted_of}
 use Rattle.sheet_tally.specs.Sheet.{tally_at, no_sheet, sheet_with}
@@ -37,6 +36,8 @@ use Rattle.sheet_laws.proofs.Lists.{sum_set, one_at_most, at_set}
 use Rattle.sheet_laws.proofs.Tally.{next, counted_length, counted_total}
 use Rattle.sheet_laws.proofs.Frames.{frame_slave}
 use Rattle.sheet_laws.proofs.Heard.{sixteen_kept}
+use Rattle.refusal.specs.Numbers.{Outcome}
+use Rattle.slave_answer.specs.declared.Taken.{Taken}
 
 record Adds (role : ℕ → Role) (s : Sheet) (records : ℕ) : Type 0 where
   sixteen : length s.tallies ≡ places
@@ -47,14 +48,14 @@ record Adds (role : ℕ → Role) (s : Sheet) (records : ℕ) : Type 0 where
 -- ---- one record more
 
 module _ (role : ℕ → Role) (s : Sheet) (k : ℕ) (a : Adds role s k) (few : k + 1 < 2 ^ 64) where
-  other_adds : Adds role (sheet_with s Other) (k + 1)
+  other_adds : Adds role (sheet_with s None) (k + 1)
   other_adds =
       let whole = a.whole in
       let more = next s.other (omega arith) in
       record { sixteen = a.sixteen; seven = a.seven; whole = omega arith; slaves = a.slaves }
 
   module _
-      (named : ℕ) (answer : FrameAnswer) (counted : column_of answer < columns)
+      (named : ℕ) (answer : Outcome Taken) (counted : column_of answer < columns)
       (slave : role (named % places) ≡ Slave) where
     abbrev at : ℕ
     at = named % places
@@ -71,14 +72,14 @@ module _ (role : ℕ → Role) (s : Sheet) (k : ℕ) (a : Adds role s k) (few : 
         ≡ cond (eqb at i) (counted_of old answer) (tally_at s.tallies i)
     stored i = at_set s.tallies at i (counted_of old answer) no_tally there
 
-    of_adds : Adds role (sheet_with s (Of named answer)) (k + 1)
+    of_adds : Adds role (sheet_with s (Some (record { named = named; answer = answer }))) (k + 1)
     of_adds =
         let whole = a.whole in
         let small = one_at_most counts_in s.tallies at no_tally there in
         let more = counted_total old answer (a.seven at) counted (omega arith) in
         let moved = sum_set counts_in s.tallies at (counted_of old answer) no_tally there in
         record {
-          sixteen = sixteen_kept s (Of named answer) ∙ a.sixteen;
+          sixteen = sixteen_kept s (Some (record { named = named; answer = answer })) ∙ a.sixteen;
           seven =
               λ i. ap (λ (t : Tally). length t.counts) (stored i)
               ∙ either (λ (t : Tally). length t.counts ≡ columns) (eqb at i)
@@ -100,7 +101,7 @@ call_adds :
     Adds (roles_of n) (sheet_with s (entry_in n c)) (k + 1)
 call_adds n s k (frame t bytes) a few =
     let answer = (node_frame_of n t bytes).answer in
-    either_told (λ (e : Entry). Adds (roles_of n) (sheet_with s e) (k + 1)) (ltb (column_of answer) columns)
+    either_told (λ (e : Option Entry). Adds (roles_of n) (sheet_with s e) (k + 1)) (ltb (column_of answer) columns)
     (λ e.
     let counted = ltb-true (column_of answer) columns e in
     of_adds (roles_of n) s k a few (named_domain bytes) answer counted

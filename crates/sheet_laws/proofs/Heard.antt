@@ -6,6 +6,7 @@
 --   moves_within      each D is a number of 64 signed bits
 --   moves_few         and there are no more of them than calls
 -- Assumes nothing.
+use Rattle.std.specs.Prelude.{Err, Ok}
 use Prim.Native.Nat.{ℕ, ◌%◌, ◌≤◌, ◌<◌}
 use mathlib.Core.Path.{◌≡◌, refl, sym, ap, ◌∙◌}
 use mathlib.Core.Bool.{Bool, true, false, cond, ◌&&◌}
@@ -15,11 +16,10 @@ use lib.Dec.{eqb, ltb}
 use lib.IntN.{ℤ}
 use lib.ListN.{length, length-set, length-append}
 use borrow.Author.Tests.{eqb-true}
+use Rattle.std.specs.Prelude.{Option, Some, None}
 use Rattle.promise.proofs.Tests.{either}
 use Rattle.settings.specs.Node.{places}
 use Rattle.domain.specs.Records.{record_at}
-use Rattle.slave_answer.specs.declared.FrameAnswer.{FrameAnswer}
-use Rattle.slave_answer.specs.declared.FrameAnswer.TheVariants.{SyncTaken, FirstTaken, Updated, Refused}
 use Rattle.frame_read.specs.Read.{named_domain}
 use Rattle.node.specs.declared.Node.{Node}
 use Rattle.node.specs.Frame.{addressed_by, node_frame_of}
@@ -28,7 +28,6 @@ use Rattle.node_laws.specs.Leaps.{moves_of, moves_by, moves_in}
 use Rattle.sheet_sum.specs.Sum.{AllWithin64}
 use Rattle.sheet_tally.specs.declared.Tally.{Tally}
 use Rattle.sheet_tally.specs.declared.entry.Entry.{Entry}
-use Rattle.sheet_tally.specs.declared.entry.Entry.TheVariants.{Of, Other}
 use Rattle.sheet_tally.specs.declared.sheet.Sheet.{Sheet}
 use Rattle.sheet_tally.specs.Tally.{columns, column_of, no_tally, counted_of}
 use Rattle.sheet_tally.specs.Sheet.{tally_at, sheet_with}
@@ -37,19 +36,22 @@ use Rattle.sheet_laws.specs.Heard.{heard_by, heard_in, differences_in}
 use Rattle.sheet_laws.proofs.Lists.{at_set}
 use Rattle.sheet_laws.proofs.Tally.{tally_all}
 use Rattle.sheet_laws.proofs.Frames.{frame_within}
+use Rattle.refusal.specs.Numbers.{Outcome}
+use Rattle.slave_answer.specs.declared.Taken.{Taken}
+use Rattle.slave_answer.specs.declared.Taken.TheVariants.{First, Opened, Updated}
 
 -- ---- sixteen tallies
 
-pub sixteen_kept : (s : Sheet) (e : Entry) → length (sheet_with s e).tallies ≡ length s.tallies
-sixteen_kept s (Of named answer) = length-set s.tallies (named % places) _
-sixteen_kept s Other = refl
+pub sixteen_kept : (s : Sheet) (e : Option Entry) → length (sheet_with s e).tallies ≡ length s.tallies
+sixteen_kept s (Some e) = length-set s.tallies (e.named % places) _
+sixteen_kept s None = refl
 
 -- ---- one record
 
 with_one :
-    (s : Sheet) (i named : ℕ) (answer : FrameAnswer) → length s.tallies ≡ places →
+    (s : Sheet) (i named : ℕ) (answer : Outcome Taken) → length s.tallies ≡ places →
     (counted : Bool) → let at = named % places in
-    tally_at (sheet_with s (cond counted (Of named answer) Other)).tallies i
+    tally_at (sheet_with s (cond counted (Some (record { named = named; answer = answer })) None)).tallies i
     ≡ tally_all (tally_at s.tallies i) (cond (eqb at i && counted) (answer ∷ []) [])
 with_one s i named answer sixteen true =
     at_set s.tallies at i (counted_of (tally_at s.tallies at) answer) no_tally there
@@ -86,7 +88,7 @@ one_heard i n s (confirm domain t counter out) sixteen = refl
 
 -- ---- all of them
 
-all_append : (t : Tally) (xs ys : List FrameAnswer) → tally_all t (xs ++ ys) ≡ tally_all (tally_all t xs) ys
+all_append : (t : Tally) (xs ys : List (Outcome Taken)) → tally_all t (xs ++ ys) ≡ tally_all (tally_all t xs) ys
 all_append t [] ys = refl
 all_append t (x ∷ xs) ys = all_append (counted_of t x) xs ys
 
@@ -101,7 +103,7 @@ heard_tally i n s (c ∷ rest) sixteen =
 
 -- ---- their D
 
-differences_append : (xs ys : List FrameAnswer) → differences_in (xs ++ ys) ≡ differences_in xs ++ differences_in ys
+differences_append : (xs ys : List (Outcome Taken)) → differences_in (xs ++ ys) ≡ differences_in xs ++ differences_in ys
 differences_append [] ys = refl
 differences_append (x ∷ xs) ys =
     ap (λ (ds : List ℤ). moves_of x ++ ds) (differences_append xs ys)
@@ -109,18 +111,18 @@ differences_append (x ∷ xs) ys =
 
 -- what no column counts has no D
 counted_moves :
-    (answer : FrameAnswer) → differences_in (cond (ltb (column_of answer) columns) (answer ∷ []) []) ≡ moves_of answer
-counted_moves SyncTaken = refl
-counted_moves FirstTaken = refl
-counted_moves (Updated d) = refl
-counted_moves (Refused refusal) =
-    either (λ (answers : List FrameAnswer). differences_in answers ≡ []) (ltb (column_of (Refused refusal)) columns)
+    (answer : Outcome Taken) → differences_in (cond (ltb (column_of answer) columns) (answer ∷ []) []) ≡ moves_of answer
+counted_moves (Ok Opened) = refl
+counted_moves (Ok First) = refl
+counted_moves (Ok (Updated d)) = refl
+counted_moves (Err refusal) =
+    either (λ (answers : List (Outcome Taken)). differences_in answers ≡ []) (ltb (column_of (Err refusal)) columns)
     refl refl
 
 moves_one : (i : ℕ) (n : Node) (c : Call) → differences_in (heard_by i n c) ≡ moves_by i n c
 moves_one i n (frame t bytes) = go (eqb (addressed_by bytes) i)
   where
-    answer : FrameAnswer
+    answer : Outcome Taken
     answer = (node_frame_of n t bytes).answer
 
     go :
@@ -144,7 +146,7 @@ heard_moves i n (c ∷ rest) =
 
 one_few : (i : ℕ) (n : Node) (c : Call) → length (heard_by i n c) ≤ 1
 one_few i n (frame t bytes) =
-    either (λ (answers : List FrameAnswer). length answers ≤ 1)
+    either (λ (answers : List (Outcome Taken)). length answers ≤ 1)
     (eqb (addressed_by bytes) i && ltb (column_of (node_frame_of n t bytes).answer) columns)
     (omega arith) (omega arith)
 one_few i n (read domain t) = omega arith
@@ -162,12 +164,12 @@ heard_few i n (c ∷ rest) =
       length-append (heard_by i n c) (heard_in i (node_after n c) rest),
     )
 
-differences_few : (answers : List FrameAnswer) → length (differences_in answers) ≤ length answers
+differences_few : (answers : List (Outcome Taken)) → length (differences_in answers) ≤ length answers
 differences_few [] = omega arith
-differences_few (SyncTaken ∷ rest) = omega (arith, differences_few rest)
-differences_few (FirstTaken ∷ rest) = omega (arith, differences_few rest)
-differences_few (Updated d ∷ rest) = omega (arith, differences_few rest)
-differences_few (Refused refusal ∷ rest) = omega (arith, differences_few rest)
+differences_few ((Ok Opened) ∷ rest) = omega (arith, differences_few rest)
+differences_few ((Ok First) ∷ rest) = omega (arith, differences_few rest)
+differences_few (Ok (Updated d) ∷ rest) = omega (arith, differences_few rest)
+differences_few (Err refusal ∷ rest) = omega (arith, differences_few rest)
 
 pub moves_few : (i : ℕ) (n : Node) (cs : List Call) → length (moves_in i n cs) ≤ length cs
 moves_few i n cs =

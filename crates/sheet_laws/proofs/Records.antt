@@ -3,6 +3,7 @@
 --   records_add_up   the counts that are printed are the records read
 --   in_pieces        bytes in pieces are taken as if they had come at once
 -- Assumes nothing.
+use Rattle.std.specs.Prelude.{None, Option, Some}
 use Prim.Native.Nat.{ℕ, zero, suc, ◌+◌, ◌*◌, ◌/◌, ◌^◌, ◌≤◌, ◌<◌}
 use mathlib.Core.Path.{◌≡◌, refl, sym, ap, subst, ◌∙◌}
 use mathlib.Core.Bool.{Bool, true, false, cond}
@@ -13,9 +14,8 @@ use lib.Dec.{ltb, leb-suc-suc}
 use lib.ListN.{length, take, drop, length-drop, length-append}
 use lib.Seq.{drop-drop, take-append-le, drop-append-le}
 use borrow.Author.Tests.{lt-ltb}
+use Rattle.std.specs.Prelude.{Option}
 use Rattle.text.specs.Pieces.{next_item}
-use Rattle.bench_record.specs.declared.Asked.{Asked}
-use Rattle.bench_record.specs.declared.Asked.TheVariants.{Call, Bad}
 use Rattle.bench_record.specs.Record.{asked_by, payload_of, lent}
 use Rattle.node.specs.declared.Node.{Node}
 use Rattle.node_call.specs.declared.Request.{Request}
@@ -65,9 +65,9 @@ entry_same n (asked.Confirm domain t counter) payload = refl
 
 bad_on :
     (a : Account) (payload : List ℕ) (rest : List (List ℕ)) →
-    ReadOn a (suc (length rest)) [] (after_records (after_asked a Bad payload) rest)
+    ReadOn a (suc (length rest)) [] (after_records (after_asked a None payload) rest)
 bad_on a payload rest =
-    let e = ended (after_asked a Bad payload) rest refl in
+    let e = ended (after_asked a None payload) rest refl in
     record {
       node = ap (λ (b : Account). b.node) e;
       sheet = ap (λ (b : Account). b.sheet) e;
@@ -87,7 +87,7 @@ call_on a q payload count cs b few h =
       node = h.node;
       sheet =
           h.sheet
-          ∙ ap (λ (e : Entry). sheet_after (node_after a.node c) (sheet_with a.sheet e) cs)
+          ∙ ap (λ (e : Option Entry). sheet_after (node_after a.node c) (sheet_with a.sheet e) cs)
           (entry_same a.node q payload);
       records = omega (arith, up, told);
       bad = h.bad ∙ sym (leb-suc-suc (suc (length cs)) count);
@@ -97,10 +97,10 @@ asked_on :
     (a : Account) (rest : List (List ℕ)) → a.records + 1 < 2 ^ 64 →
     ((q : Request) (payload : List ℕ) →
     ReadOn (called a q payload) (length rest) (calls_of rest) (after_records (called a q payload) rest)) →
-    (x : Asked) (payload : List ℕ) →
+    (x : Option Request) (payload : List ℕ) →
     ReadOn a (suc (length rest)) (asked_then x payload (calls_of rest)) (after_records (after_asked a x payload) rest)
-asked_on a rest few more Bad payload = bad_on a payload rest
-asked_on a rest few more (Call q) payload =
+asked_on a rest few more None payload = bad_on a payload rest
+asked_on a rest few more (Some q) payload =
     call_on a q payload (length rest) (calls_of rest) (after_records (called a q payload) rest) few (more q payload)
 
 read_on :
@@ -125,9 +125,9 @@ records_read n rs few =
 -- ---- no more calls than records
 
 asked_few :
-    (x : Asked) (payload : List ℕ) (rest : List NodeCall) → length (asked_then x payload rest) ≤ suc (length rest)
-asked_few (Call q) payload rest = omega arith
-asked_few Bad payload rest = omega arith
+    (x : Option Request) (payload : List ℕ) (rest : List NodeCall) → length (asked_then x payload rest) ≤ suc (length rest)
+asked_few (Some q) payload rest = omega arith
+asked_few None payload rest = omega arith
 
 calls_few : (rs : List (List ℕ)) → length (calls_of rs) ≤ length rs
 calls_few [] = omega arith

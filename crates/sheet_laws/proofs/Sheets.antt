@@ -10,13 +10,13 @@ use mathlib.Core.List.{List}
 use native.Mathlib.Omega.{arith}
 use lib.IntN.{ℤ}
 use lib.ListN.{get_or, get_or-replicate}
+use Rattle.std.specs.Prelude.{None}
 use Rattle.settings.specs.Node.{places}
 use Rattle.node.specs.declared.Node.{Node}
 use Rattle.node_call.specs.Calls.{Call}
 use Rattle.node_laws.specs.Leaps.{moves_in}
 use Rattle.sheet_sum.specs.Sum.{no_sum, sum_with_all, sum_of}
 use Rattle.sheet_sum.proofs.Sums.{sum_exact}
-use Rattle.sheet_tally.specs.declared.spread.Spread.TheVariants.{None}
 use Rattle.sheet_tally.specs.declared.Tally.{Tally}
 use Rattle.sheet_tally.specs.Tally.{columns, no_tally}
 use Rattle.sheet_tally.specs.Sheet.{no_sheet}

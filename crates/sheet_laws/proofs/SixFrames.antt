@@ -9,6 +9,7 @@ use Prim.Native.Nat.{ℕ}
 use mathlib.Core.Path.{◌≡◌, refl}
 use mathlib.Core.List.{List, [], ◌∷◌}
 use lib.IntN.{pos, negsuc}
+use Rattle.std.specs.Prelude.{Some}
 use Rattle.clock.specs.declared.reading.VirtualLocalTime.{VirtualLocalTime}
 use Rattle.text.specs.Text.{spelled}
 use Rattle.bench_settings.specs.Bench.{bench_with}
@@ -17,7 +18,6 @@ use Rattle.node.specs.New.{new_of}
 use Rattle.node_call.specs.Calls.{Call, frame, node_after_all}
 use Rattle.node_laws.specs.Leaps.{moves_in}
 use Rattle.sheet_sum.specs.Sum.{sum_of}
-use Rattle.sheet_tally.specs.declared.spread.Spread.TheVariants.{Of}
 use Rattle.sheet_tally.specs.Sheet.{no_sheet}
 use Rattle.sheet_line.specs.Line.{sheet_text}
 use Rattle.sheet_laws.specs.Calls.{sheet_after}
@@ -42,7 +42,7 @@ calls =
 moves_met : moves_in 1 bench calls ≡ negsuc 4 ∷ pos 7 ∷ []
 moves_met = refl
 
-spread_met : (tally_in 1 bench calls).spread ≡ Of (negsuc 4) (pos 7)
+spread_met : (tally_in 1 bench calls).spread ≡ Some (record { least = negsuc 4; greatest = pos 7 })
 spread_met = refl
 
 sum_met : sum_of (tally_in 1 bench calls).sum ≡ pos 2

@@ -3,7 +3,7 @@
 --   none_of                 and is none exactly where there is no D
 -- The two differ in which of two numbers they pick (`Picks`). Assumes nothing.
 use Prim.Native.Nat.{ℕ}
-use mathlib.Core.Path.{◌≡◌, refl, sym, subst, ◌∙◌}
+use mathlib.Core.Path.{◌≡◌, refl, sym, ap, subst, ◌∙◌}
 use mathlib.Core.Logic.{◌⊎◌, inl, inr, ⊎_elim}
 use mathlib.Core.Bool.{Bool, true, false, cond, not}
 use mathlib.Core.List.{List, [], ◌∷◌}
@@ -12,8 +12,9 @@ use native.Mathlib.Omega.{arith}
 use lib.Dec.{T, ltb→lt, le→leb}
 use lib.IntN.{ℤ, pos, negsuc}
 use lib.Signed.{lt_z, le_z, ◌≤ℤ◌, ◌<ℤ◌, le_z_yes, lt_z_yes, lt_z_no, ≤ℤ_refl, <ℤ-≤ℤ_trans, clash_ℤ}
+use Rattle.std.specs.Prelude.{Some, None}
 use Rattle.promise.proofs.Tests.{either_told}
-use Rattle.sheet_tally.specs.declared.spread.Spread.TheVariants.{None, Of}
+use Rattle.sheet_tally.specs.declared.spread.Spread.{Spread}
 use Rattle.sheet_tally.specs.Spread.{lesser, greater}
 use Rattle.sheet_laws.specs.Heard.{IsIn, IsLeast, IsGreatest}
 use Rattle.sheet_laws.proofs.Tally.{spread_all}
@@ -111,7 +112,8 @@ greater_picks =
 
 spread_from :
     (least greatest : ℤ) (ds : List ℤ) →
-    spread_all (Of least greatest) ds ≡ Of (picked lesser least ds) (picked greater greatest ds)
+    spread_all (Some (record { least = least; greatest = greatest })) ds ≡
+    Some (record { least = picked lesser least ds; greatest = picked greater greatest ds })
 spread_from least greatest [] = refl
 spread_from least greatest (d ∷ rest) = spread_from (lesser d least) (greater d greatest) rest
 
@@ -122,18 +124,22 @@ none_of (d ∷ rest) = (
   λ e. cc,
 )
 
-pub least_of : (ds : List ℤ) (least greatest : ℤ) → spread_all None ds ≡ Of least greatest → IsLeast least ds
+pub least_of : (ds : List ℤ) (least greatest : ℤ) → spread_all None ds ≡ Some (record { least = least; greatest = greatest }) → IsLeast least ds
 least_of [] least greatest e = let never : ◌≡◌ {A = ℕ} 0 1 = cc in absurd (omega arith)
 least_of (d ∷ rest) least greatest e =
     let told = sym (spread_from d d rest) ∙ e in
-    let is : picked lesser d rest ≡ least = cc in
+    let same : ◌≡◌ {A = Spread} (record { least = picked lesser d rest; greatest = picked greater d rest })
+    (record { least = least; greatest = greatest }) = cc in
+    let is : picked lesser d rest ≡ least = ap (λ (s : Spread). s.least) same in
     subst (λ (z : ℤ). IsLeast z (d ∷ rest)) is
     (record { stands_in = picked_in lesser lesser_picks d rest; least = picked_first lesser lesser_picks d rest })
 
-pub greatest_of : (ds : List ℤ) (least greatest : ℤ) → spread_all None ds ≡ Of least greatest → IsGreatest greatest ds
+pub greatest_of : (ds : List ℤ) (least greatest : ℤ) → spread_all None ds ≡ Some (record { least = least; greatest = greatest }) → IsGreatest greatest ds
 greatest_of [] least greatest e = let never : ◌≡◌ {A = ℕ} 0 1 = cc in absurd (omega arith)
 greatest_of (d ∷ rest) least greatest e =
     let told = sym (spread_from d d rest) ∙ e in
-    let is : picked greater d rest ≡ greatest = cc in
+    let same : ◌≡◌ {A = Spread} (record { least = picked lesser d rest; greatest = picked greater d rest })
+    (record { least = least; greatest = greatest }) = cc in
+    let is : picked greater d rest ≡ greatest = ap (λ (s : Spread). s.greatest) same in
     subst (λ (z : ℤ). IsGreatest z (d ∷ rest)) is
     (record { stands_in = picked_in greater greater_picks d rest; greatest = picked_first greater greater_picks d rest })

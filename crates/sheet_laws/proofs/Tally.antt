@@ -4,6 +4,7 @@
 --   all_counts                   each count rises by how many answers are of its column
 --   all_sum, all_spread          the sum and the spread are those of the answers' D
 -- Assumes nothing.
+use Rattle.std.specs.Prelude.{Err, Ok}
 use Prim.Native.Nat.{ℕ, ◌+◌, ◌^◌, ◌≤◌, ◌<◌}
 use mathlib.Core.Path.{◌≡◌, refl, sym, ap, ◌∙◌}
 use mathlib.Core.Bool.{Bool, true, false, cond}
@@ -13,10 +14,9 @@ use lib.Dec.{eqb, ltb}
 use lib.IntN.{ℤ}
 use lib.ListN.{length, get_or, set, length-set}
 use borrow.Author.Tests.{eqb-true, ltb-true, ltb-false, lt-ltb, ne_eqb}
+use Rattle.std.specs.Prelude.{Option, Some}
 use Rattle.promise.proofs.Tests.{either, either_told}
 use Rattle.text.specs.Pieces.{next_item}
-use Rattle.slave_answer.specs.declared.FrameAnswer.{FrameAnswer}
-use Rattle.slave_answer.specs.declared.FrameAnswer.TheVariants.{SyncTaken, FirstTaken, Updated, Refused}
 use Rattle.node_laws.specs.Leaps.{moves_of}
 use Rattle.sheet_sum.specs.declared.Sum.{Sum}
 use Rattle.sheet_sum.specs.Sum.{sum_with, sum_with_all}
@@ -27,25 +27,28 @@ use Rattle.sheet_tally.specs.Tally.{columns, column_of, one_more_in, counted_of}
 use Rattle.sheet_laws.specs.Heard.{count_in, differences_in}
 use Rattle.sheet_laws.specs.Totals.{sum_by, counts_in}
 use Rattle.sheet_laws.proofs.Lists.{sum_set, one_at_most, at_set}
+use Rattle.refusal.specs.Numbers.{Outcome}
+use Rattle.slave_answer.specs.declared.Taken.{Taken}
+use Rattle.slave_answer.specs.declared.Taken.TheVariants.{First, Opened, Updated}
 
-abbrev pub tally_all : Tally → List FrameAnswer → Tally
+abbrev pub tally_all : Tally → List (Outcome Taken) → Tally
 tally_all t [] = t
 tally_all t (answer ∷ rest) = tally_all (counted_of t answer) rest
 
-abbrev pub spread_all : Spread → List ℤ → Spread
+abbrev pub spread_all : Option Spread → List ℤ → Option Spread
 spread_all s [] = s
-spread_all s (d ∷ rest) = spread_all (spread_with s d) rest
+spread_all s (d ∷ rest) = spread_all (Some (spread_with s d)) rest
 
 -- ---- below the last number of 64 bits a count rises by one
 pub next : (n : ℕ) → n + 1 < 2 ^ 64 → next_item n ≡ n + 1
 next n h = rw (lt-ltb n 18446744073709551615 (omega arith))
 
 -- ---- one answer: its D changes no count
-counted_counts : (t : Tally) (answer : FrameAnswer) → (counted_of t answer).counts ≡ (one_more_in t (column_of answer)).counts
-counted_counts t SyncTaken = refl
-counted_counts t FirstTaken = refl
-counted_counts t (Updated d) = refl
-counted_counts t (Refused refusal) = refl
+counted_counts : (t : Tally) (answer : Outcome Taken) → (counted_of t answer).counts ≡ (one_more_in t (column_of answer)).counts
+counted_counts t (Ok Opened) = refl
+counted_counts t (Ok First) = refl
+counted_counts t (Ok (Updated d)) = refl
+counted_counts t (Err refusal) = refl
 
 -- and its column neither the sum nor the spread
 more_sum : (t : Tally) (column : ℕ) → (one_more_in t column).sum ≡ t.sum
@@ -54,18 +57,18 @@ more_sum t column = either (λ (u : Tally). u.sum ≡ t.sum) (ltb column columns
 more_spread : (t : Tally) (column : ℕ) → (one_more_in t column).spread ≡ t.spread
 more_spread t column = either (λ (u : Tally). u.spread ≡ t.spread) (ltb column columns) refl refl
 
-counted_sum : (t : Tally) (answer : FrameAnswer) → (counted_of t answer).sum ≡ sum_with_all t.sum (moves_of answer)
-counted_sum t SyncTaken = refl
-counted_sum t FirstTaken = refl
-counted_sum t (Updated d) = refl
-counted_sum t (Refused refusal) = more_sum t (column_of (Refused refusal))
+counted_sum : (t : Tally) (answer : Outcome Taken) → (counted_of t answer).sum ≡ sum_with_all t.sum (moves_of answer)
+counted_sum t (Ok Opened) = refl
+counted_sum t (Ok First) = refl
+counted_sum t (Ok (Updated d)) = refl
+counted_sum t (Err refusal) = more_sum t (column_of (Err refusal))
 
 counted_spread :
-    (t : Tally) (answer : FrameAnswer) → (counted_of t answer).spread ≡ spread_all t.spread (moves_of answer)
-counted_spread t SyncTaken = refl
-counted_spread t FirstTaken = refl
-counted_spread t (Updated d) = refl
-counted_spread t (Refused refusal) = more_spread t (column_of (Refused refusal))
+    (t : Tally) (answer : Outcome Taken) → (counted_of t answer).spread ≡ spread_all t.spread (moves_of answer)
+counted_spread t (Ok Opened) = refl
+counted_spread t (Ok First) = refl
+counted_spread t (Ok (Updated d)) = refl
+counted_spread t (Err refusal) = more_spread t (column_of (Err refusal))
 
 -- ---- the seven counts
 
@@ -74,7 +77,7 @@ more_length t column =
     either (λ (u : Tally). length u.counts ≡ length t.counts) (ltb column columns)
     (length-set t.counts column _) refl
 
-pub counted_length : (t : Tally) (answer : FrameAnswer) → length (counted_of t answer).counts ≡ length t.counts
+pub counted_length : (t : Tally) (answer : Outcome Taken) → length (counted_of t answer).counts ≡ length t.counts
 counted_length t answer = ap length (counted_counts t answer) ∙ more_length t (column_of answer)
 
 more_total :
@@ -89,7 +92,7 @@ more_total t column seven below few =
     rw (lt-ltb column columns below) (omega arith)
 
 pub counted_total :
-    (t : Tally) (answer : FrameAnswer) → length t.counts ≡ columns → column_of answer < columns →
+    (t : Tally) (answer : Outcome Taken) → length t.counts ≡ columns → column_of answer < columns →
     counts_in t + 1 < 2 ^ 64 → counts_in (counted_of t answer) ≡ counts_in t + 1
 counted_total t answer seven below few =
     ap (sum_by (λ (n : ℕ). n)) (counted_counts t answer) ∙ more_total t (column_of answer) seven below few
@@ -126,7 +129,7 @@ more_at t column k seven below few =
     kept e = let h = ltb-false column columns e in rw (ne_eqb column k (λ same. omega arith)) (omega arith)
 
 pub all_counts :
-    (k : ℕ) (t : Tally) (answers : List FrameAnswer) → length t.counts ≡ columns → k < columns →
+    (k : ℕ) (t : Tally) (answers : List (Outcome Taken)) → length t.counts ≡ columns → k < columns →
     get_or t.counts k 0 + length answers < 2 ^ 64 →
     get_or (tally_all t answers).counts k 0 ≡ get_or t.counts k 0 + count_in k answers
 all_counts k t [] seven below few = omega arith
@@ -144,12 +147,12 @@ sum_append : (s : Sum) (xs ys : List ℤ) → sum_with_all s (xs ++ ys) ≡ sum_
 sum_append s [] ys = refl
 sum_append s (x ∷ xs) ys = sum_append (sum_with s x) xs ys
 
-spread_append : (s : Spread) (xs ys : List ℤ) → spread_all s (xs ++ ys) ≡ spread_all (spread_all s xs) ys
+spread_append : (s : Option Spread) (xs ys : List ℤ) → spread_all s (xs ++ ys) ≡ spread_all (spread_all s xs) ys
 spread_append s [] ys = refl
-spread_append s (x ∷ xs) ys = spread_append (spread_with s x) xs ys
+spread_append s (x ∷ xs) ys = spread_append (Some (spread_with s x)) xs ys
 
 pub all_sum :
-    (t : Tally) (answers : List FrameAnswer) → (tally_all t answers).sum ≡ sum_with_all t.sum (differences_in answers)
+    (t : Tally) (answers : List (Outcome Taken)) → (tally_all t answers).sum ≡ sum_with_all t.sum (differences_in answers)
 all_sum t [] = refl
 all_sum t (answer ∷ rest) =
     all_sum (counted_of t answer) rest
@@ -157,10 +160,10 @@ all_sum t (answer ∷ rest) =
     ∙ sym (sum_append t.sum (moves_of answer) (differences_in rest))
 
 pub all_spread :
-    (t : Tally) (answers : List FrameAnswer) →
+    (t : Tally) (answers : List (Outcome Taken)) →
     (tally_all t answers).spread ≡ spread_all t.spread (differences_in answers)
 all_spread t [] = refl
 all_spread t (answer ∷ rest) =
     all_spread (counted_of t answer) rest
-    ∙ ap (λ (s : Spread). spread_all s (differences_in rest)) (counted_spread t answer)
+    ∙ ap (λ (s : Option Spread). spread_all s (differences_in rest)) (counted_spread t answer)
     ∙ sym (spread_append t.spread (moves_of answer) (differences_in rest))

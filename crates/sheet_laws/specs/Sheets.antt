@@ -1,12 +1,11 @@
 -- Paper 02, request 13: what is proved of the sheet. Each statement is of any node and any calls, and of the sheet that
 -- they make of an empty one; where a count is in it, of fewer than 2^64 calls. Assumes nothing.
-use Rattle.std.specs.Prelude.{ℕ, ◌^◌, ◌<◌, ◌≡◌, List, [], ℤ, length, get_or}
+use Rattle.std.specs.Prelude.{ℕ, ◌^◌, ◌<◌, ◌≡◌, List, [], ℤ, length, get_or, Some, None}
 use Rattle.settings.specs.Node.{places}
 use Rattle.node.specs.declared.Node.{Node}
 use Rattle.node_call.specs.Calls.{Call, node_after_all}
 use Rattle.node_laws.specs.Leaps.{moves_in}
 use Rattle.sheet_sum.specs.Sum.{total, sum_of}
-use Rattle.sheet_tally.specs.declared.spread.Spread.TheVariants.{None, Of}
 use Rattle.sheet_tally.specs.declared.Tally.{Tally}
 use Rattle.sheet_tally.specs.Tally.{columns}
 use Rattle.sheet_tally.specs.Sheet.{tally_at, no_sheet}
@@ -39,12 +38,12 @@ SheetSum =
 abbrev pub SheetLeast : Type 0
 SheetLeast =
     (i : ℕ) (n : Node) (cs : List Call) (least greatest : ℤ) → i < places →
-    (tally_in i n cs).spread ≡ Of least greatest → IsLeast least (moves_in i n cs)
+    (tally_in i n cs).spread ≡ Some (record { least = least; greatest = greatest }) → IsLeast least (moves_in i n cs)
 
 abbrev pub SheetGreatest : Type 0
 SheetGreatest =
     (i : ℕ) (n : Node) (cs : List Call) (least greatest : ℤ) → i < places →
-    (tally_in i n cs).spread ≡ Of least greatest → IsGreatest greatest (moves_in i n cs)
+    (tally_in i n cs).spread ≡ Some (record { least = least; greatest = greatest }) → IsGreatest greatest (moves_in i n cs)
 
 abbrev pub SheetNone : Type 0
 SheetNone =

@@ -9,6 +9,7 @@ use native.Mathlib.Nat.{le_refl}
 use native.Mathlib.Omega.{arith}
 use lib.IntN.{ℤ, pos, negsuc}
 use lib.ListN.{length}
+use Rattle.std.specs.Prelude.{Option, Some, None}
 use Rattle.text.specs.Text.{decimal}
 use Rattle.text.specs.Lines.{blank, newline}
 use Rattle.text.proofs.Lengths.{decimal_length, append_fits}
@@ -18,11 +19,8 @@ use Rattle.settings.specs.Node.{places}
 use Rattle.domain.specs.Records.{record_at}
 use Rattle.node.specs.declared.Node.{Node}
 use Rattle.sheet_sum.specs.declared.Sum.{Sum}
-use Rattle.sheet_sum.specs.declared.Told.{Told}
-use Rattle.sheet_sum.specs.declared.Told.TheVariants.{Plus, Minus, Over}
 use Rattle.sheet_sum.specs.Sum.{sum_of, told_of}
 use Rattle.sheet_tally.specs.declared.spread.Spread.{Spread}
-use Rattle.sheet_tally.specs.declared.spread.Spread.TheVariants.{None, Of}
 use Rattle.sheet_tally.specs.declared.Tally.{Tally}
 use Rattle.sheet_tally.specs.declared.sheet.Sheet.{Sheet}
 use Rattle.sheet_tally.specs.Sheet.{tally_at}
@@ -49,10 +47,9 @@ signed_fits : (d : ℤ) → length (signed_text d) ≤ 22
 signed_fits (pos m) = omega (arith, plain_fits m)
 signed_fits (negsuc m) = minus_fits (suc m)
 
-told_fits : (told : Told) → length (told_text told) ≤ 22
-told_fits (Plus m) = omega (arith, plain_fits m)
-told_fits (Minus m) = minus_fits m
-told_fits Over = omega arith
+told_fits : (told : Option ℤ) → length (told_text told) ≤ 22
+told_fits (Some sum) = signed_fits sum
+told_fits None = omega arith
 
 -- ---- a line
 
@@ -60,11 +57,11 @@ counts_fit : (counts : List ℕ) → length (counts_text counts) ≤ length coun
 counts_fit [] = omega arith
 counts_fit (n ∷ rest) = omega (arith, append_fits (plain_text n) (counts_text rest) (plain_fits n) (counts_fit rest))
 
-spread_fits : (spread : Spread) (sum : Sum) → length (spread_text spread sum) ≤ 66
+spread_fits : (spread : Option Spread) (sum : Sum) → length (spread_text spread sum) ≤ 66
 spread_fits None sum = omega arith
-spread_fits (Of least greatest) sum =
-    append_fits (signed_text least ++ signed_text greatest) (told_text (told_of (sum_of sum)))
-    (append_fits (signed_text least) (signed_text greatest) (signed_fits least) (signed_fits greatest))
+spread_fits (Some s) sum =
+    append_fits (signed_text s.least ++ signed_text s.greatest) (told_text (told_of (sum_of sum)))
+    (append_fits (signed_text s.least) (signed_text s.greatest) (signed_fits s.least) (signed_fits s.greatest))
     (told_fits (told_of (sum_of sum)))
 
 pub line_fits : (domain : ℕ) (t : Tally) → length t.counts ≤ 7 → length (line_text domain t) ≤ 234

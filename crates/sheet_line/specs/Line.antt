@@ -1,5 +1,5 @@
 -- Paper 02, request 13: the lines of the sheet. Assumes nothing.
-use Rattle.std.specs.Prelude.{ℕ, zero, suc, List, [], ◌∷◌, ◌++◌}
+use Rattle.std.specs.Prelude.{ℕ, zero, suc, List, [], ◌∷◌, ◌++◌, Option, Some, None}
 use Rattle.text.specs.Text.{decimal}
 use Rattle.text.specs.Lines.{newline}
 use Rattle.settings.specs.declared.domain_settings.Role.{Role}
@@ -10,7 +10,6 @@ use Rattle.node.specs.declared.Node.{Node}
 use Rattle.sheet_sum.specs.declared.Sum.{Sum}
 use Rattle.sheet_sum.specs.Sum.{sum_of, told_of}
 use Rattle.sheet_tally.specs.declared.spread.Spread.{Spread}
-use Rattle.sheet_tally.specs.declared.spread.Spread.TheVariants.{None, Of}
 use Rattle.sheet_tally.specs.declared.Tally.{Tally}
 use Rattle.sheet_tally.specs.declared.sheet.Sheet.{Sheet}
 use Rattle.sheet_tally.specs.Sheet.{tally_at}
@@ -22,9 +21,9 @@ counts_text [] = []
 counts_text (n ∷ rest) = plain_text n ++ counts_text rest
 
 -- ---- "least and greatest D, and the exact sum"; "with no D the last three are `-`"
-abbrev pub spread_text : Spread → Sum → List ℕ
+abbrev pub spread_text : Option Spread → Sum → List ℕ
 spread_text None sum = 32 ∷ 45 ∷ 32 ∷ 45 ∷ 32 ∷ 45 ∷ []
-spread_text (Of least greatest) sum = signed_text least ++ signed_text greatest ++ told_text (told_of (sum_of sum))
+spread_text (Some s) sum = signed_text s.least ++ signed_text s.greatest ++ told_text (told_of (sum_of sum))
 
 -- ---- "its number" first
 abbrev pub line_text : (domain : ℕ) → Tally → List ℕ

@@ -1,9 +1,7 @@
 -- Paper 02, request 13: numbers in a line, "fields parted by one blank". Assumes nothing.
-use Rattle.std.specs.Prelude.{ℕ, suc, List, [], ◌∷◌, ◌++◌, ℤ, pos, negsuc}
+use Rattle.std.specs.Prelude.{ℕ, suc, List, [], ◌∷◌, ◌++◌, ℤ, pos, negsuc, Option, Some, None}
 use Rattle.text.specs.Text.{decimal}
 use Rattle.text.specs.Lines.{blank}
-use Rattle.sheet_sum.specs.declared.Told.{Told}
-use Rattle.sheet_sum.specs.declared.Told.TheVariants.{Plus, Minus, Over}
 
 abbrev pub plain_text : ℕ → List ℕ
 plain_text n = blank ++ decimal n
@@ -17,7 +15,6 @@ signed_text (pos m) = plain_text m
 signed_text (negsuc m) = minus_text (suc m)
 
 -- ---- "A sum outside signed 64 bits prints `over`."
-abbrev pub told_text : Told → List ℕ
-told_text (Plus m) = plain_text m
-told_text (Minus m) = minus_text m
-told_text Over = 32 ∷ 111 ∷ 118 ∷ 101 ∷ 114 ∷ []
+abbrev pub told_text : Option ℤ → List ℕ
+told_text (Some sum) = signed_text sum
+told_text None = 32 ∷ 111 ∷ 118 ∷ 101 ∷ 114 ∷ []

@@ -3,7 +3,7 @@
 
 pub mod signed;
 
-ghost use Rattle.text.specs.Text.{Puts};
+ghost use Rattle.text.specs.Text.{Wrote};
 ghost use Rattle.sheet_line.specs.Line.{
   counts_text,
   spread_text,
@@ -20,82 +20,75 @@ use sheet_sum::Sum;
 use sheet_tally::Tally;
 use sheet_tally::sheet::Sheet;
 use sheet_tally::spread::Spread;
-use text::{put_byte, put_bytes, put_decimal};
+use text::Out;
 
 // The lines of the node's slaves, by rising number, and the closing line.
-pub fn put_sheet(out: &mut [u8], at: usize, node: Node, sheet: Sheet) -> usize
-    ensures { Puts (sheet_text node sheet) at out.old result out.new }
+pub fn put_sheet(out: &mut Out, node: Node, sheet: Sheet)
+    ensures { Wrote (sheet_text node sheet) out.old out.new }
 {
-    let mut place = at;
-    let mut d = 0;
-    while d < Node::DOMAINS {
+    for d in 0..Node::DOMAINS {
         let record = node.domains[d];
         let settings = record.settings;
         let role = settings.role;
         let tally = sheet.tallies[d];
-        place = put_domain(out, place, d as u8, role, tally);
-        d += 1;
+        put_domain(out, d as u8, role, tally);
     }
-    put_other(out, place, sheet.other)
+    put_other(out, sheet.other);
 }
 
 // A slave has a line, and another domain none.
-#[tactic(auto, using(text::proofs::Laws::nothing))]
-fn put_domain(out: &mut [u8], at: usize, domain: u8, role: Role, tally: Tally) -> usize
-    ensures { Puts (domain_text domain role tally) at out.old result out.new }
+#[tactic(auto, using(text::proofs::Wrote::nothing))]
+fn put_domain(out: &mut Out, domain: u8, role: Role, tally: Tally)
+    ensures { Wrote (domain_text domain role tally) out.old out.new }
 {
     match role {
-        Role::Absent => at,
-        Role::Slave => put_line(out, at, domain, tally),
-        Role::Master => at,
+        Role::Absent => {}
+        Role::Slave => put_line(out, domain, tally),
+        Role::Master => {}
     }
 }
 
 // The domain, its counts, and what is said of D.
-pub fn put_line(out: &mut [u8], at: usize, domain: u8, tally: Tally) -> usize
-    ensures { Puts (line_text domain tally) at out.old result out.new }
+pub fn put_line(out: &mut Out, domain: u8, tally: Tally)
+    ensures { Wrote (line_text domain tally) out.old out.new }
 {
     let counts = tally.counts;
     let spread = tally.spread;
     let sum = tally.sum;
-    let first = put_decimal(out, at, domain as u64);
-    let then = put_counts(out, first, counts);
-    let end = put_spread(out, then, spread, sum);
-    put_byte(out, end, b'\n')
+    out.put_decimal(domain as u64);
+    put_counts(out, counts);
+    put_spread(out, spread, sum);
+    out.put_byte(b'\n');
 }
 
 // The count of each column.
-fn put_counts(out: &mut [u8], at: usize, counts: [u64; Tally::COLUMNS]) -> usize
-    ensures { Puts (counts_text counts) at out.old result out.new }
+fn put_counts(out: &mut Out, counts: [u64; Tally::COLUMNS])
+    ensures { Wrote (counts_text counts) out.old out.new }
 {
-    let mut place = at;
-    let mut column = 0;
-    while column < Tally::COLUMNS {
-        place = put_plain(out, place, counts[column]);
-        column += 1;
+    for n in &counts {
+        put_plain(out, *n);
     }
-    place
 }
 
 // The least D, the greatest, and the sum.
-fn put_spread(out: &mut [u8], at: usize, spread: Spread, sum: Sum) -> usize
-    ensures { Puts (spread_text spread sum) at out.old result out.new }
+fn put_spread(out: &mut Out, spread: Option<Spread>, sum: Sum)
+    ensures { Wrote (spread_text spread sum) out.old out.new }
 {
     match spread {
-        Spread::None => put_bytes(out, at, b" - - -"),
-        Spread::Of { least, greatest } => {
-            let second = put_signed(out, at, least);
-            let third = put_signed(out, second, greatest);
-            put_told(out, third, sum.told())
+        None => out.put_bytes(b" - - -"),
+        Some(spread) => {
+            put_signed(out, spread.least);
+            put_signed(out, spread.greatest);
+            put_told(out, sum.told());
         }
     }
 }
 
 // The closing line.
-fn put_other(out: &mut [u8], at: usize, other: u64) -> usize
-    ensures { Puts (other_text other) at out.old result out.new }
+fn put_other(out: &mut Out, other: u64)
+    ensures { Wrote (other_text other) out.old out.new }
 {
-    let then = put_bytes(out, at, b"other");
-    let end = put_plain(out, then, other);
-    put_byte(out, end, b'\n')
+    out.put_bytes(b"other");
+    put_plain(out, other);
+    out.put_byte(b'\n');
 }

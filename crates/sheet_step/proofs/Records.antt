@@ -3,13 +3,15 @@
 --   no_record      fewer make none
 --   one_on         what is left from a place on, a record further
 --   at_end         and where there is none
+--   one_taken      the same where a record stands first
+--   none_taken     and where there is none
 -- Assumes nothing.
 use Prim.Native.Nat.{ℕ, suc, ◌+◌, ◌-◌, ◌/◌, ◌≤◌, ◌<◌}
 use mathlib.Core.Path.{◌≡◌, ap, ◌∙◌}
-use mathlib.Core.List.{List, [], ◌∷◌}
+use mathlib.Core.List.{List, [], ◌∷◌, ◌++◌}
 use native.Mathlib.Omega.{arith}
-use lib.ListN.{length, take, drop, length-drop}
-use lib.Seq.{drop-drop}
+use lib.ListN.{length, take, drop, length-drop, length-append}
+use lib.Seq.{drop-drop, take_at, drop_at}
 use Rattle.sheet_step.specs.declared.Account.{Account}
 use Rattle.sheet_step.specs.Account.{after_record, after_records, records_of}
 
@@ -43,3 +45,18 @@ pub at_end :
 at_end a bytes at h =
     let few : length (drop at bytes) < 20 = omega (arith, length-drop at bytes) in
     ap (after_records a) (no_record (drop at bytes) few)
+
+-- ---- what is left makes of an account what the record that stands first does, and then what is left after it
+pub one_taken :
+    (a : Account) (rest record_bytes after : List ℕ) → rest ≡ record_bytes ++ after → length record_bytes ≡ 20 →
+    after_records a (whole_of rest) ≡ after_records (after_record a record_bytes) (whole_of after)
+one_taken a rest record_bytes after e h =
+    let whole : 20 ≤ length rest = omega (arith, ap length e, length-append record_bytes after) in
+    let first : take 20 rest ≡ record_bytes = ap (take 20) e ∙ take_at record_bytes after 20 h in
+    let others : drop 20 rest ≡ after = ap (drop 20) e ∙ drop_at record_bytes after 20 h in
+    ap (after_records a) (first_record rest whole)
+    ∙ ap (λ (r : List ℕ). after_records (after_record a r) (whole_of (drop 20 rest))) first
+    ∙ ap (λ (left : List ℕ). after_records (after_record a record_bytes) (whole_of left)) others
+
+pub none_taken : (a : Account) (rest : List ℕ) → length rest < 20 → after_records a (whole_of rest) ≡ a
+none_taken a rest h = ap (after_records a) (no_record rest h)

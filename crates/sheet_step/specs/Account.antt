@@ -1,8 +1,6 @@
 -- Paper 02, request 13: "reads bench records". Assumes nothing.
-use Rattle.std.specs.Prelude.{ℕ, zero, suc, true, false, cond, List, [], ◌∷◌, take, drop}
+use Rattle.std.specs.Prelude.{ℕ, zero, suc, true, false, cond, List, [], ◌∷◌, take, drop, None, Option, Some}
 use Rattle.text.specs.Pieces.{next_item}
-use Rattle.bench_record.specs.declared.Asked.{Asked}
-use Rattle.bench_record.specs.declared.Asked.TheVariants.{Call, Bad}
 use Rattle.bench_record.specs.Record.{asked_by, payload_of, lent}
 use Rattle.node.specs.declared.Node.{Node}
 use Rattle.node_call.specs.declared.Request.{Request}
@@ -27,9 +25,9 @@ called a q payload =
     }
 
 -- ---- "a bad record isn't counted as read", and nothing is read after it.
-abbrev pub after_asked : Account → Asked → (payload : List ℕ) → Account
-after_asked a (Call q) payload = called a q payload
-after_asked a Bad payload = record { node = a.node; sheet = a.sheet; records = a.records; bad = true }
+abbrev pub after_asked : Account → Option Request → (payload : List ℕ) → Account
+after_asked a (Some q) payload = called a q payload
+after_asked a None payload = record { node = a.node; sheet = a.sheet; records = a.records; bad = true }
 
 abbrev pub after_record : Account → (bytes : List ℕ) → Account
 after_record a bytes = cond a.bad a (after_asked a (asked_by bytes) (payload_of bytes))

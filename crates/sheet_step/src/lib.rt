@@ -7,7 +7,7 @@ pub mod report;
 ghost use Rattle.std.specs.Prelude.{◌/◌, ◌≡◌, length};
 ghost use Rattle.sheet_step.specs.Account.{account_of, called, after_record, records_of, after_records};
 
-use bench_record::{Asked, asked_by, payload};
+use bench_record::{asked_by, payload};
 use node::Node;
 use node_call::{Request, call};
 use sheet_tally::entry::entry_of;
@@ -47,10 +47,8 @@ pub fn take_records(account: Account, bytes: &[u8]) -> Account
     ensures { result ≡ after_records account (records_of (length bytes.now / 20) bytes.now) }
 {
     let mut next = account;
-    let mut at = 0;
-    while Account::RECORD <= bytes.len() - at {
-        next = take_record(next, &bytes[at..at + Account::RECORD]);
-        at += Account::RECORD;
+    for record in bytes.chunks_exact(Account::RECORD) {
+        next = take_record(next, record);
     }
     next
 }
@@ -63,12 +61,11 @@ pub fn take_record(account: Account, bytes: &[u8]) -> Account
         return account;
     }
     match asked_by(bytes) {
-        Asked::Bad => {
-            let mut ended = account;
-            ended.bad = true;
-            ended
-        }
-        Asked::Call(request) => answered(account, request, payload(bytes)),
+        None => Account {
+            bad: true,
+            ..account
+        },
+        Some(request) => answered(account, request, payload(bytes)),
     }
 }
 
@@ -77,15 +74,11 @@ fn answered(account: Account, request: Request, payload: [u8; 8]) -> Account
     ensures { result ≡ called account request payload }
 {
     let mut sent = [0u8; 8];
-    let node = account.node;
-    let sheet = account.sheet;
-    let step = call(node, request, &payload, &mut sent);
-    let answer = step.answer;
-    let after = step.node;
+    let step = call(account.node, request, &payload, &mut sent);
     Account {
-        node: after,
-        sheet: sheet.with(entry_of(answer, &payload)),
+        node: step.node,
+        sheet: account.sheet.with(entry_of(step.answer, &payload)),
         records: next_item(account.records),
-        bad: account.bad,
+        ..account
     }
 }

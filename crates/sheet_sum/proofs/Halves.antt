@@ -1,4 +1,4 @@
--- Laws of a number's two halves. No contract cites this file.
+-- Laws of the two halves of a number of 128 bits, as a machine of 64 keeps them. No contract cites this file.
 --   as_wide        two numbers of 64 bits that make n are n's
 --   wide_value     and n is what they make
 --   more_plain, more_carried, more_held        so much more, in its three cases
@@ -9,9 +9,26 @@ use Prim.Native.Nat.{ℕ, ◌+◌, ◌-◌, ◌*◌, ◌/◌, ◌%◌, ◌^◌, 
 use mathlib.Core.Path.{◌≡◌}
 use native.Mathlib.Nat.{lt_of_lt_of_le, le_trans, mul-le-mul_right}
 use native.Mathlib.Omega.{arith}
-use borrow.Author.Tests.{lt-ltb, le-ltb}
-use Rattle.sheet_sum.specs.declared.Wide.{Wide}
-use Rattle.sheet_sum.specs.Wide.{value_of, wide_of, last_wide, more_of, gap_of}
+use Rattle.sheet_sum.specs.Wide.{more_of}
+
+pub record Wide : Type 0 where
+  pub high : ℕ
+  pub low : ℕ
+
+abbrev pub value_of : Wide → ℕ
+value_of w = w.high * 2 ^ 64 + w.low
+
+abbrev pub wide_of : ℕ → Wide
+wide_of n = record { high = n / 2 ^ 64; low = n % 2 ^ 64 }
+
+abbrev pub last_halves : Wide
+last_halves = record { high = 2 ^ 64 - 1; low = 2 ^ 64 - 1 }
+
+abbrev pub halves_more : Wide → ℕ → Wide
+halves_more w more = wide_of (more_of (value_of w) more)
+
+abbrev pub gap_of : (a b : Wide) → Wide
+gap_of a b = wide_of (value_of a - value_of b)
 
 pub as_wide : (high low n : ℕ) → low < 2 ^ 64 → n ≡ high * 2 ^ 64 + low → record { high = high; low = low } ≡ wide_of n
 as_wide high low n fits e =
@@ -29,23 +46,24 @@ in_128 n high h k = lt_of_lt_of_le h (mul-le-mul_right (2 ^ 64) k)
 
 pub more_plain :
     (w : Wide) (more : ℕ) → w.high < 2 ^ 64 → w.low + more < 2 ^ 64 →
-    record { high = w.high; low = w.low + more } ≡ more_of w more
+    record { high = w.high; low = w.low + more } ≡ halves_more w more
 more_plain w more h l =
-    rw (lt-ltb (value_of w + more) (2 ^ 128) (in_128 (value_of w + more) (w.high + 1) (omega arith) (omega arith)))
-    (as_wide w.high (w.low + more) (value_of w + more) l (omega arith))
+    let below : value_of w + more < 2 ^ 128 = in_128 (value_of w + more) (w.high + 1) (omega arith) (omega arith) in
+    as_wide w.high (w.low + more) (more_of (value_of w) more) l (omega arith)
 
 pub more_carried :
     (w : Wide) (more : ℕ) → w.high + 1 < 2 ^ 64 → w.low < 2 ^ 64 → more < 2 ^ 64 → 2 ^ 64 ≤ w.low + more →
-    record { high = w.high + 1; low = more - (2 ^ 64 - 1 - w.low) - 1 } ≡ more_of w more
+    record { high = w.high + 1; low = more - (2 ^ 64 - 1 - w.low) - 1 } ≡ halves_more w more
 more_carried w more h l m over =
-    rw (lt-ltb (value_of w + more) (2 ^ 128) (in_128 (value_of w + more) (w.high + 2) (omega arith) (omega arith)))
-    (as_wide (w.high + 1) (more - (2 ^ 64 - 1 - w.low) - 1) (value_of w + more) (omega arith) (omega arith))
+    let below : value_of w + more < 2 ^ 128 = in_128 (value_of w + more) (w.high + 2) (omega arith) (omega arith) in
+    as_wide (w.high + 1) (more - (2 ^ 64 - 1 - w.low) - 1) (more_of (value_of w) more) (omega arith) (omega arith)
 
 pub more_held :
-    (w : Wide) (more : ℕ) → 2 ^ 64 ≤ w.high + 1 → 2 ^ 64 ≤ w.low + more → last_wide ≡ more_of w more
+    (w : Wide) (more : ℕ) → 2 ^ 64 ≤ w.high + 1 → 2 ^ 64 ≤ w.low + more → last_halves ≡ halves_more w more
 more_held w more h over =
     let beyond : (w.high + 1) * 2 ^ 64 ≤ value_of w + more = omega arith in
-    rw (le-ltb (value_of w + more) (2 ^ 128) (le_trans (mul-le-mul_right (2 ^ 64) h) beyond))
+    let last : 2 ^ 64 * 2 ^ 64 ≤ value_of w + more = le_trans (mul-le-mul_right (2 ^ 64) h) beyond in
+    as_wide (2 ^ 64 - 1) (2 ^ 64 - 1) (more_of (value_of w) more) (omega arith) (omega arith)
 
 -- ---- what a is more than b
 

@@ -2,16 +2,15 @@
 -- Assumes nothing.
 use Prim.Native.Nat.{ℕ}
 use mathlib.Core.Path.{◌≡◌}
+use Rattle.std.specs.Prelude.{Option}
 use lib.IntN.{ℤ}
 use Rattle.promise.specs.Only.{OnlyOne}
 use Rattle.promise.proofs.Laws.{equation_only}
-use Rattle.sheet_sum.specs.declared.Wide.{Wide}
 use Rattle.sheet_sum.specs.declared.Sum.{Sum}
-use Rattle.sheet_sum.specs.declared.Told.{Told}
 use Rattle.sheet_sum.specs.Wide.{more_of}
 use Rattle.sheet_sum.specs.Sum.{no_sum, sum_with, sum_of, told_of}
 
-pub plus_only : (w : Wide) (more : ℕ) → OnlyOne (λ (r : Wide). r ≡ more_of w more)
+pub plus_only : (w more : ℕ) → OnlyOne (λ (r : ℕ). r ≡ more_of w more)
 plus_only w more = equation_only (more_of w more)
 
 pub new_only : OnlyOne (λ (r : Sum). r ≡ no_sum)
@@ -20,5 +19,5 @@ new_only = equation_only no_sum
 pub with_only : (s : Sum) (d : ℤ) → OnlyOne (λ (r : Sum). r ≡ sum_with s d)
 with_only s d = equation_only (sum_with s d)
 
-pub told_only : (s : Sum) → OnlyOne (λ (r : Told). r ≡ told_of (sum_of s))
+pub told_only : (s : Sum) → OnlyOne (λ (r : Option ℤ). r ≡ told_of (sum_of s))
 told_only s = equation_only (told_of (sum_of s))

@@ -2,12 +2,13 @@
 --   goes_behind, goes_ahead   where a D goes, by its sign
 --   told_plus, told_minus     what a sum tells, by which of its two numbers is more
 --   sum_exact                 after fewer than 2^64 D of 64 bits the sum is their total
---   told_over                 a sum tells `Over` exactly where it is outside signed 64 bits
+--   told_over                 a sum tells none exactly where it is outside signed 64 bits
 -- Assumes nothing.
 use Prim.Native.Nat.{ℕ, suc, ◌+◌, ◌-◌, ◌*◌, ◌^◌, ◌≤◌, ◌<◌}
 use mathlib.Core.Path.{◌≡◌, refl, sym, ap, ◌∙◌}
 use mathlib.Core.Bool.{true, false}
 use mathlib.Core.List.{List, [], ◌∷◌}
+use Rattle.std.specs.Prelude.{Option, Some, None, cond, neg_ℤ}
 use native.Mathlib.Nat.{zero-add, le_of_lt, lt_of_le_of_lt, mul-le-mul_right}
 use native.Mathlib.Omega.{arith}
 use lib.IntN.{ℤ, pos, negsuc, nat_abs, sub_ℕ, ◌+ℤ◌, +ℤ_idl, +ℤ_idr, +ℤ_assoc}
@@ -16,11 +17,8 @@ use lib.Signed.{lt_z}
 use borrow.Author.Tests.{ltb-true, ltb-false, lt-ltb, le-ltb, leb-true, leb-false, eqb-true, eqb-false}
 use lib.Dec.{leb, ltb, eqb, lit<}
 use Rattle.promise.proofs.Tests.{either_told}
-use Rattle.sheet_sum.specs.declared.Wide.{Wide}
 use Rattle.sheet_sum.specs.declared.Sum.{Sum}
-use Rattle.sheet_sum.specs.declared.Told.{Told}
-use Rattle.sheet_sum.specs.declared.Told.TheVariants.{Over}
-use Rattle.sheet_sum.specs.Wide.{value_of, more_of, gap_of}
+use Rattle.sheet_sum.specs.Wide.{more_of}
 use Rattle.sheet_sum.specs.Sum.{
   total,
   Within64,
@@ -29,11 +27,8 @@ use Rattle.sheet_sum.specs.Sum.{
   sum_with,
   sum_with_all,
   sum_of,
-  plus_of,
-  minus_of,
   told_of,
 }
-use Rattle.sheet_sum.proofs.Halves.{wide_value}
 
 -- ---- a D more
 
@@ -51,6 +46,12 @@ goes_ahead s (negsuc m) e = cc
 
 -- ---- what a sum tells
 
+abbrev pub plus_of : ℕ → Option ℤ
+plus_of m = cond (leb m (2 ^ 63 - 1)) (Some (pos m)) None
+
+abbrev pub minus_of : ℕ → Option ℤ
+minus_of m = cond (leb m (2 ^ 63)) (Some (neg_ℤ (pos m))) None
+
 not_less : (a b : ℕ) → b - a ≡ 0 → plus_of (a - b) ≡ told_of (sub_ℕ a b)
 not_less a b e = rw (le-ltb a b (omega arith))
 
@@ -61,20 +62,11 @@ less a b some =
     rw (lt-ltb a b h) (ap minus_of e)
 
 module _ (s : Sum) where
-  pub told_plus :
-      eqb (value_of (gap_of s.behind s.ahead)) 0 ≡ true →
-      plus_of (value_of (gap_of s.ahead s.behind)) ≡ told_of (sum_of s)
-  told_plus e =
-      ap plus_of (wide_value (value_of s.ahead - value_of s.behind))
-      ∙ not_less (value_of s.ahead) (value_of s.behind)
-      (sym (wide_value (value_of s.behind - value_of s.ahead)) ∙ eqb-true _ 0 e)
+  pub told_plus : eqb (s.behind - s.ahead) 0 ≡ true → plus_of (s.ahead - s.behind) ≡ told_of (sum_of s)
+  told_plus e = not_less s.ahead s.behind (eqb-true _ 0 e)
 
-  pub told_minus :
-      eqb (value_of (gap_of s.behind s.ahead)) 0 ≡ false →
-      minus_of (value_of (gap_of s.behind s.ahead)) ≡ told_of (sum_of s)
-  told_minus e =
-      let w = wide_value (value_of s.behind - value_of s.ahead) in
-      ap minus_of w ∙ less (value_of s.ahead) (value_of s.behind) (λ z. eqb-false _ 0 e (w ∙ z))
+  pub told_minus : eqb (s.behind - s.ahead) 0 ≡ false → minus_of (s.behind - s.ahead) ≡ told_of (sum_of s)
+  told_minus e = less s.ahead s.behind (λ z. eqb-false _ 0 e z)
 
 -- ---- a difference of naturals, with more on one side
 
@@ -120,20 +112,20 @@ behind_more a b m =
 
 -- ---- the sum is exact as long as neither number is held
 
-more_value : (w : Wide) (m : ℕ) → value_of w + m < 2 ^ 128 → value_of (more_of w m) ≡ value_of w + m
-more_value w m h = rw (lt-ltb (value_of w + m) (2 ^ 128) h) (wide_value (value_of w + m))
+more_value : (w m : ℕ) → w + m < 2 ^ 128 → more_of w m ≡ w + m
+more_value w m h = omega arith
 
 module _ (top : ℕ) (fits : (n : ℕ) → n ≤ top → n < 2 ^ 128) where
   pub record Room (s : Sum) (left : ℕ) : Type 0 where
-    pub ahead : value_of s.ahead + left * 2 ^ 63 ≤ top
-    pub behind : value_of s.behind + left * 2 ^ 63 ≤ top
+    pub ahead : s.ahead + left * 2 ^ 63 ≤ top
+    pub behind : s.behind + left * 2 ^ 63 ≤ top
 
   with_one :
       (s : Sum) (d : ℤ) (left : ℕ) → Within64 d → Room s (suc left) →
       (sum_of (sum_with s d) ≡ sum_of s +ℤ d) × Room (sum_with s d) left
   with_one s (pos m) left h r =
-      let a = value_of s.ahead in
-      let b = value_of s.behind in
+      let a = s.ahead in
+      let b = s.behind in
       let up : a + suc left * 2 ^ 63 ≤ top = r.ahead in
       let down : b + suc left * 2 ^ 63 ≤ top = r.behind in
       let value = more_value s.ahead m (fits (a + m) (omega arith)) in
@@ -143,8 +135,8 @@ module _ (top : ℕ) (fits : (n : ℕ) → n ≤ top → n < 2 ^ 128) where
         record { ahead = rw value room; behind = other },
       )
   with_one s (negsuc m) left h r =
-      let a = value_of s.ahead in
-      let b = value_of s.behind in
+      let a = s.ahead in
+      let b = s.behind in
       let up : a + suc left * 2 ^ 63 ≤ top = r.ahead in
       let down : b + suc left * 2 ^ 63 ≤ top = r.behind in
       let value = more_value s.behind (suc m) (fits (b + suc m) (omega arith)) in
@@ -172,19 +164,19 @@ sum_exact ds h few =
 
 -- ---- `over`
 
-abbrev OverExactly : Told → ℤ → Type 0
-OverExactly told z = (told ≡ Over → Within64 z → ⊥) × ((Within64 z → ⊥) → told ≡ Over)
+abbrev OverExactly : Option ℤ → ℤ → Type 0
+OverExactly told z = (told ≡ None → Within64 z → ⊥) × ((Within64 z → ⊥) → told ≡ None)
 
 pub told_over : (z : ℤ) → OverExactly (told_of z) z
 told_over (pos m) =
-    either_told (λ (told : Told). OverExactly told (pos m)) (leb m _)
+    either_told (λ (told : Option ℤ). OverExactly told (pos m)) (leb m _)
     (λ e. (
       λ over h. let no : ◌≡◌ {A = ℕ} 0 1 = cc in omega arith,
       λ out. absurd (out (omega (arith, leb-true m _ e))),
     ))
     (λ e. (λ over h. omega (arith, h, leb-false m _ e), λ out. refl))
 told_over (negsuc m) =
-    either_told (λ (told : Told). OverExactly told (negsuc m)) (leb (suc m) _)
+    either_told (λ (told : Option ℤ). OverExactly told (negsuc m)) (leb (suc m) _)
     (λ e. (
       λ over h. let no : ◌≡◌ {A = ℕ} 0 1 = cc in omega arith,
       λ out. absurd (out (omega (arith, leb-true (suc m) _ e))),

@@ -1,11 +1,9 @@
 -- Paper 02, request 13: "the exact sum of all D". Assumes nothing.
-use Rattle.std.specs.Prelude.{ℕ, suc, ◌-◌, ◌^◌, ◌<◌, cond, List, [], ◌∷◌, leb, ℤ, pos, negsuc, ◌+ℤ◌}
+use Rattle.std.specs.Prelude.{suc, ◌-◌, ◌^◌, ◌<◌, cond, List, [], ◌∷◌, leb, ℤ, pos, negsuc, ◌+ℤ◌, Option, Some, None}
 use Rattle.std.proofs.Math.IntN.{sub_ℕ}
 use Rattle.std.specs.Int.Signed.{mag}
 use Rattle.sheet_sum.specs.declared.Sum.{Sum}
-use Rattle.sheet_sum.specs.declared.Told.{Told}
-use Rattle.sheet_sum.specs.declared.Told.TheVariants.{Plus, Minus, Over}
-use Rattle.sheet_sum.specs.Wide.{value_of, more_of}
+use Rattle.sheet_sum.specs.Wide.{more_of}
 
 -- ---- The sum of D, as a reader means it.
 abbrev pub total : List ℤ → ℤ
@@ -22,7 +20,7 @@ AllWithin64 (d ∷ rest) = Within64 d × AllWithin64 rest
 
 -- ---- How it is kept: of no D, and with one D more, which goes to one of the two numbers.
 abbrev pub no_sum : Sum
-no_sum = record { ahead = record { high = 0; low = 0 }; behind = record { high = 0; low = 0 } }
+no_sum = record { ahead = 0; behind = 0 }
 
 abbrev pub sum_with : Sum → ℤ → Sum
 sum_with s (pos m) = record { ahead = more_of s.ahead m; behind = s.behind }
@@ -33,15 +31,9 @@ sum_with_all s [] = s
 sum_with_all s (d ∷ rest) = sum_with_all (sum_with s d) rest
 
 abbrev pub sum_of : Sum → ℤ
-sum_of s = sub_ℕ (value_of s.ahead) (value_of s.behind)
+sum_of s = sub_ℕ s.ahead s.behind
 
 -- ---- "A sum outside signed 64 bits prints `over`"; -2^63 is inside.
-abbrev pub plus_of : ℕ → Told
-plus_of m = cond (leb m (2 ^ 63 - 1)) (Plus m) Over
-
-abbrev pub minus_of : ℕ → Told
-minus_of m = cond (leb m (2 ^ 63)) (Minus m) Over
-
-abbrev pub told_of : ℤ → Told
-told_of (pos m) = plus_of m
-told_of (negsuc m) = minus_of (suc m)
+abbrev pub told_of : ℤ → Option ℤ
+told_of (pos m) = cond (leb m (2 ^ 63 - 1)) (Some (pos m)) None
+told_of (negsuc m) = cond (leb (suc m) (2 ^ 63)) (Some (negsuc m)) None

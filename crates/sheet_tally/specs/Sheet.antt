@@ -1,10 +1,9 @@
 -- Paper 02, request 13: the sheet of all domains. Assumes nothing.
-use Rattle.std.specs.Prelude.{ℕ, ◌%◌, List, get_or, set, replicate}
+use Rattle.std.specs.Prelude.{ℕ, ◌%◌, List, get_or, set, replicate, Option, Some, None}
 use Rattle.text.specs.Pieces.{next_item}
 use Rattle.settings.specs.Node.{places}
 use Rattle.sheet_tally.specs.declared.Tally.{Tally}
 use Rattle.sheet_tally.specs.declared.entry.Entry.{Entry}
-use Rattle.sheet_tally.specs.declared.entry.Entry.TheVariants.{Of, Other}
 use Rattle.sheet_tally.specs.declared.sheet.Sheet.{Sheet}
 use Rattle.sheet_tally.specs.Tally.{no_tally, counted_of}
 
@@ -15,8 +14,8 @@ abbrev pub no_sheet : Sheet
 no_sheet = record { tallies = replicate places no_tally; other = 0 }
 
 -- ---- A record goes to its domain's tally, or is counted among the others.
-abbrev pub sheet_with : Sheet → Entry → Sheet
-sheet_with s (Of domain answer) =
-    let at = domain % places in
-    record { tallies = set s.tallies at (counted_of (tally_at s.tallies at) answer); other = s.other }
-sheet_with s Other = record { tallies = s.tallies; other = next_item s.other }
+abbrev pub sheet_with : Sheet → Option Entry → Sheet
+sheet_with s (Some entry) =
+    let at = entry.named % places in
+    record { tallies = set s.tallies at (counted_of (tally_at s.tallies at) entry.answer); other = s.other }
+sheet_with s None = record { tallies = s.tallies; other = next_item s.other }

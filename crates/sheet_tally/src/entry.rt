@@ -6,34 +6,38 @@ ghost use Rattle.sheet_tally.specs.Entry.{entry_by, entry_of};
 use crate::{Tally, column_of};
 use frame_read::named_domain;
 use node_call::CallAnswer;
-use slave_answer::FrameAnswer;
+use refusal::Outcome;
+use slave_answer::Taken;
 
 #[derive(Drop)]
-pub enum Entry {
-    // Of the domain that a frame names.
-    Of(u8, FrameAnswer),
-    Other,
+pub struct Entry {
+    // The domain that the frame names.
+    pub named: u8,
+    pub answer: Outcome<Taken>,
 }
 
-// `frame` is what a frame call was given.
-pub fn entry_of(answer: CallAnswer, frame: &[u8]) -> Entry
+// `None` is one of the others; `frame` is what a frame call was given.
+pub fn entry_of(answer: CallAnswer, frame: &[u8]) -> Option<Entry>
     ensures { result ≡ entry_of answer frame.now }
 {
     match answer {
         CallAnswer::Frame(told) => entry_by(told, frame),
-        CallAnswer::Read(_) => Entry::Other,
-        CallAnswer::Set(_) => Entry::Other,
-        CallAnswer::Cycle(_) => Entry::Other,
-        CallAnswer::Confirm(_) => Entry::Other,
+        CallAnswer::Read(_) => None,
+        CallAnswer::Set(_) => None,
+        CallAnswer::Cycle(_) => None,
+        CallAnswer::Confirm(_) => None,
     }
 }
 
-fn entry_by(answer: FrameAnswer, frame: &[u8]) -> Entry
+fn entry_by(answer: Outcome<Taken>, frame: &[u8]) -> Option<Entry>
     ensures { result ≡ entry_by answer frame.now }
 {
     if (column_of(answer) as usize) < Tally::COLUMNS {
-        Entry::Of(named_domain(frame), answer)
+        Some(Entry {
+            named: named_domain(frame),
+            answer,
+        })
     } else {
-        Entry::Other
+        None
     }
 }

@@ -17,8 +17,9 @@ ghost use Rattle.sheet_tally.specs.Tally.{
 };
 
 use crate::spread::Spread;
+use refusal::Outcome;
 use sheet_sum::Sum;
-use slave_answer::FrameAnswer;
+use slave_answer::Taken;
 use text::pieces::next_item;
 
 #[derive(Clone, Copy)]
@@ -26,7 +27,7 @@ pub struct Tally {
     // By column: SYNCs taken, FUPs taken, frames refused under 5, 6, 7, 8 and 9. Held at the last number of 64 bits.
     pub counts: [u64; Tally::COLUMNS],
     // Of all D.
-    pub spread: Spread,
+    pub spread: Option<Spread>,
     pub sum: Sum,
 }
 
@@ -39,35 +40,33 @@ impl Tally {
     {
         Tally {
             counts: [0; Tally::COLUMNS],
-            spread: Spread::None,
+            spread: None,
             sum: Sum::new(),
         }
     }
 
     // With one answer more.
-    pub fn counted(self, answer: FrameAnswer) -> Tally
+    pub fn counted(self, answer: Outcome<Taken>) -> Tally
         ensures { result ≡ counted_of self answer }
     {
         let column = column_of(answer);
         let tally = one_more_in(self, column);
         match answer {
-            FrameAnswer::SyncTaken => tally,
-            FrameAnswer::FirstTaken => tally,
-            FrameAnswer::Updated(d) => with_difference(tally, d),
-            FrameAnswer::Refused(_) => tally,
+            Ok(Taken::Updated(d)) => with_difference(tally, d),
+            _ => tally,
         }
     }
 }
 
 // The column that counts an answer. 7 is none: a number below 5 or above 9.
-pub fn column_of(answer: FrameAnswer) -> u8
+pub fn column_of(answer: Outcome<Taken>) -> u8
     ensures { result ≡ column_of answer }
 {
     match answer {
-        FrameAnswer::SyncTaken => 0,
-        FrameAnswer::FirstTaken => 1,
-        FrameAnswer::Updated(_) => 1,
-        FrameAnswer::Refused(refusal) => refused_column(refusal.number()),
+        Ok(Taken::Opened) => 0,
+        Ok(Taken::First) => 1,
+        Ok(Taken::Updated(_)) => 1,
+        Err(refusal) => refused_column(refusal.number()),
     }
 }
 
@@ -101,7 +100,7 @@ fn with_difference(tally: Tally, d: i64) -> Tally
     let sum = tally.sum;
     Tally {
         counts,
-        spread: spread.with(d),
+        spread: Some(Spread::with(spread, d)),
         sum: sum.with(d),
     }
 }

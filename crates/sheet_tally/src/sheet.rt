@@ -27,18 +27,18 @@ impl Sheet {
         }
     }
 
-    // With one record more.
-    pub fn with(mut self, entry: Entry) -> Sheet
+    // With one record more: `None` is one of the others.
+    pub fn with(mut self, entry: Option<Entry>) -> Sheet
         ensures { result ≡ sheet_with self entry }
     {
         match entry {
-            Entry::Of(named, answer) => {
-                let at = named as usize % Sheet::DOMAINS;
+            Some(entry) => {
+                let at = entry.named as usize % Sheet::DOMAINS;
                 let tally = self.tallies[at];
-                self.tallies[at] = tally.counted(answer);
+                self.tallies[at] = tally.counted(entry.answer);
                 self
             }
-            Entry::Other => {
+            None => {
                 self.other = next_item(self.other);
                 self
             }

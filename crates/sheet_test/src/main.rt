@@ -4,11 +4,11 @@
 
 use refusal::Refusal;
 use sheet_line::put_line;
-use sheet_sum::{Sum, Told, Wide};
+use sheet_sum::{Sum, plus};
 use sheet_tally::Tally;
-use sheet_tally::spread::Spread;
-use slave_answer::FrameAnswer;
+use slave_answer::Taken;
 use test_line::{number, signed, word};
+use text::Out;
 use text::pieces::write_out;
 
 const HALF: u64 = 9_223_372_036_854_775_808;
@@ -34,15 +34,23 @@ fn wides(rt: &impl Print) {
 }
 
 fn wide(rt: &impl Print, high: u64, low: u64, more: u64) {
-    let after = Wide { high, low }.plus(more);
+    let after = plus(wide_of(high, low), more);
     word(rt, b"wide");
     number(rt, high);
     number(rt, low);
     number(rt, more);
     word(rt, b":");
-    number(rt, after.high);
-    number(rt, after.low);
+    halves(rt, after);
     word(rt, b"\n");
+}
+
+fn wide_of(high: u64, low: u64) -> u128 {
+    u128::from(high) << 64 | u128::from(low)
+}
+
+fn halves(rt: &impl Print, wide: u128) {
+    number(rt, (wide >> 64) as u64);
+    number(rt, (wide & 0xFFFF_FFFF_FFFF_FFFF) as u64);
 }
 
 // Three D.
@@ -98,14 +106,8 @@ fn ends(rt: &impl Print) {
 
 fn end(rt: &impl Print, ahead_high: u64, ahead_low: u64, behind_high: u64, behind_low: u64) {
     let whole = Sum {
-        ahead: Wide {
-            high: ahead_high,
-            low: ahead_low,
-        },
-        behind: Wide {
-            high: behind_high,
-            low: behind_low,
-        },
+        ahead: wide_of(ahead_high, ahead_low),
+        behind: wide_of(behind_high, behind_low),
     };
     word(rt, b"end");
     number(rt, ahead_high);
@@ -116,15 +118,16 @@ fn end(rt: &impl Print, ahead_high: u64, ahead_low: u64, behind_high: u64, behin
     say(rt, whole.told());
 }
 
-fn say(rt: &impl Print, told: Told) {
+fn say(rt: &impl Print, told: Option<i64>) {
     word(rt, b":");
     match told {
-        Told::Plus(m) => number(rt, m),
-        Told::Minus(m) => {
-            word(rt, b" minus");
-            number(rt, m);
+        Some(sum) => {
+            if sum < 0 {
+                word(rt, b" minus");
+            }
+            number(rt, sum.unsigned_abs());
         }
-        Told::Over => word(rt, b" over"),
+        None => word(rt, b" over"),
     }
     word(rt, b"\n");
 }
@@ -132,38 +135,34 @@ fn say(rt: &impl Print, told: Told) {
 fn lines(rt: &impl Print) {
     let none = Tally::new();
     line(rt, none);
-    let first = none
-        .counted(FrameAnswer::SyncTaken)
-        .counted(FrameAnswer::FirstTaken);
+    let first = none.counted(Ok(Taken::Opened)).counted(Ok(Taken::First));
     line(rt, first);
     // no column counts 15
-    line(
-        rt,
-        first.counted(FrameAnswer::Refused(Refusal::RowIncomplete)),
-    );
-    line(rt, first.counted(FrameAnswer::Refused(Refusal::Check)));
-    line(
-        rt,
-        first.counted(FrameAnswer::Refused(Refusal::Nanoseconds)),
-    );
-    let ahead = first.counted(FrameAnswer::Updated(i64::MAX));
+    line(rt, first.counted(Err(Refusal::RowIncomplete)));
+    line(rt, first.counted(Err(Refusal::Check)));
+    line(rt, first.counted(Err(Refusal::Nanoseconds)));
+    let ahead = first.counted(Ok(Taken::Updated(i64::MAX)));
     line(rt, ahead);
-    line(rt, ahead.counted(FrameAnswer::Updated(1)));
-    line(rt, ahead.counted(FrameAnswer::Updated(i64::MIN)));
-    let behind = first.counted(FrameAnswer::Updated(i64::MIN));
+    line(rt, ahead.counted(Ok(Taken::Updated(1))));
+    line(rt, ahead.counted(Ok(Taken::Updated(i64::MIN))));
+    let behind = first.counted(Ok(Taken::Updated(i64::MIN)));
     line(rt, behind);
-    line(rt, behind.counted(FrameAnswer::Updated(-1)));
+    line(rt, behind.counted(Ok(Taken::Updated(-1))));
     let full = Tally {
         counts: [u64::MAX; Tally::COLUMNS],
-        spread: Spread::None,
+        spread: None,
         sum: Sum::new(),
     };
     line(rt, full);
-    line(rt, full.counted(FrameAnswer::SyncTaken));
+    line(rt, full.counted(Ok(Taken::Opened)));
 }
 
 fn line(rt: &impl Print, tally: Tally) {
     let mut text = [0u8; 256];
-    let end = put_line(&mut text, 0, 15, tally);
-    write_out(rt, &text, end);
+    let mut out = Out {
+        bytes: &mut text,
+        at: 0,
+    };
+    put_line(&mut out, 15, tally);
+    write_out(rt, &out);
 }

@@ -37,25 +37,17 @@ pub fn judge_counter(
 ) -> CounterVerdict
     ensures { result ≡ verdict_of jump_width loss_time last new t }
 {
-    match last {
-        LastSync::Unknown => CounterVerdict::Free,
-        LastSync::Seen {
-            counter,
-            row: _,
-            at,
-        } => {
-            if loss_time < t.since(at) {
-                return CounterVerdict::Free;
-            }
-            let step = (new % COUNTERS + COUNTERS - counter % COUNTERS) % COUNTERS;
-            if step < 1 {
-                return CounterVerdict::NotGood;
-            }
-            if jump_width < step {
-                return CounterVerdict::NotGood;
-            }
-            CounterVerdict::Good
-        }
+    let LastSync::Seen { counter, at, .. } = last else {
+        return CounterVerdict::Free;
+    };
+    if loss_time < t.since(at) {
+        return CounterVerdict::Free;
+    }
+    let step = (new % COUNTERS + COUNTERS - counter % COUNTERS) % COUNTERS;
+    if (1..=jump_width).contains(&step) {
+        CounterVerdict::Good
+    } else {
+        CounterVerdict::NotGood
     }
 }
 
@@ -65,11 +57,7 @@ pub fn row_of(last: LastSync) -> u8
 {
     match last {
         LastSync::Unknown => 0,
-        LastSync::Seen {
-            counter: _,
-            row,
-            at: _,
-        } => row,
+        LastSync::Seen { row, .. } => row,
     }
 }
 
@@ -79,11 +67,7 @@ pub fn with_row(last: LastSync, row: u8) -> LastSync
 {
     match last {
         LastSync::Unknown => LastSync::Unknown,
-        LastSync::Seen {
-            counter,
-            row: _,
-            at,
-        } => LastSync::Seen { counter, row, at },
+        LastSync::Seen { counter, at, .. } => LastSync::Seen { counter, row, at },
     }
 }
 
@@ -94,18 +78,10 @@ pub fn check_row(hysteresis: u8, row: u8, verdict: CounterVerdict) -> RowCheck
 {
     match verdict {
         CounterVerdict::Free => reached_by(hysteresis, 0),
-        CounterVerdict::Good => {
-            if hysteresis <= row {
-                return RowCheck::Complete(hysteresis);
-            }
-            reached_by(hysteresis, row + 1)
-        }
-        CounterVerdict::NotGood => {
-            if hysteresis <= row {
-                return RowCheck::NotGood(row);
-            }
-            RowCheck::NotGood(0)
-        }
+        CounterVerdict::Good if hysteresis <= row => RowCheck::Complete(hysteresis),
+        CounterVerdict::Good => reached_by(hysteresis, row + 1),
+        CounterVerdict::NotGood if hysteresis <= row => RowCheck::NotGood(row),
+        CounterVerdict::NotGood => RowCheck::NotGood(0),
     }
 }
 

@@ -7,8 +7,10 @@ use Rattle.promise.proofs.Laws.{equation_only}
 use Rattle.clock.specs.declared.reading.VirtualLocalTime.{VirtualLocalTime}
 use Rattle.frame.specs.declared.values.Fup.{Fup}
 use Rattle.domain.specs.declared.Domain.{Domain}
-use Rattle.slave_answer.specs.declared.FrameStep.{FrameStep}
 use Rattle.slave_fup.specs.Fup.{fup_of}
+use Rattle.domain.specs.declared.DomainStep.{DomainStep}
+use Rattle.refusal.specs.Numbers.{Outcome}
+use Rattle.slave_answer.specs.declared.Taken.{Taken}
 
-pub take_fup_only : (d : Domain) (t : VirtualLocalTime) (f : Fup) → OnlyOne (λ (r : FrameStep). r ≡ fup_of d t f)
+pub take_fup_only : (d : Domain) (t : VirtualLocalTime) (f : Fup) → OnlyOne (λ (r : DomainStep (Outcome Taken)). r ≡ fup_of d t f)
 take_fup_only d t f = equation_only _

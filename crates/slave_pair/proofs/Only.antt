@@ -1,6 +1,7 @@
 -- No two results satisfy the promise of F, as `F_only` for each public function F. No contract cites
 -- this file.
 -- Assumes nothing.
+use Rattle.std.specs.Prelude.{Option}
 use Prim.Native.Nat.{ℕ}
 use mathlib.Core.Path.{◌≡◌}
 use Rattle.promise.specs.Only.{OnlyOne}
@@ -10,10 +11,9 @@ use Rattle.frame.specs.declared.values.Protection.{Protection}
 use Rattle.frame.specs.declared.values.Sync.{Sync}
 use Rattle.frame.specs.declared.values.Fup.{Fup}
 use Rattle.domain.specs.declared.Pair.{Pair}
-use Rattle.domain.specs.declared.Pairing.{Pairing}
-use Rattle.slave_pair.specs.declared.joining.Joined.{Joined}
 use Rattle.slave_pair.specs.Pair.{user_in, pair_of}
 use Rattle.slave_pair.specs.Join.{joined_of}
+use Rattle.refusal.specs.Numbers.{Outcome}
 
 pub user_in_only : (p : Protection) → OnlyOne (λ (r : ℕ). r ≡ user_in p)
 user_in_only p = equation_only _
@@ -22,5 +22,5 @@ pub pair_of_only : (t : VirtualLocalTime) (s : Sync) → OnlyOne (λ (r : Pair).
 pair_of_only t s = equation_only _
 
 pub join_only :
-    (f : ℕ) (p : Pairing) (t : VirtualLocalTime) (fup : Fup) → OnlyOne (λ (r : Joined). r ≡ joined_of f p t fup)
+    (f : ℕ) (p : Option Pair) (t : VirtualLocalTime) (fup : Fup) → OnlyOne (λ (r : Outcome Pair). r ≡ joined_of f p t fup)
 join_only f p t fup = equation_only _

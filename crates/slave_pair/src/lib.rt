@@ -5,5 +5,5 @@
 mod joining;
 mod pair;
 
-pub use joining::{Joined, join};
+pub use joining::join;
 pub use pair::{pair_of, user_in};

@@ -5,29 +5,33 @@ use test_line as line;
 
 // H 0 to 2, the greatest, and one that no settings have; rows up to H, and beyond it, which no record holds.
 pub fn rows(rt: &impl Print) {
-    checks(rt, 0, 0);
-    checks(rt, 0, 1);
-    checks(rt, 0, 255);
-    checks(rt, 1, 0);
-    checks(rt, 1, 1);
-    checks(rt, 1, 2);
-    checks(rt, 1, 255);
-    checks(rt, 2, 0);
-    checks(rt, 2, 1);
-    checks(rt, 2, 2);
-    checks(rt, 2, 3);
-    checks(rt, 2, 255);
-    checks(rt, 15, 0);
-    checks(rt, 15, 1);
-    checks(rt, 15, 13);
-    checks(rt, 15, 14);
-    checks(rt, 15, 15);
-    checks(rt, 15, 255);
-    checks(rt, 255, 0);
-    checks(rt, 255, 1);
-    checks(rt, 255, 253);
-    checks(rt, 255, 254);
-    checks(rt, 255, 255);
+    for (h, row) in [
+        (0, 0),
+        (0, 1),
+        (0, 255),
+        (1, 0),
+        (1, 1),
+        (1, 2),
+        (1, 255),
+        (2, 0),
+        (2, 1),
+        (2, 2),
+        (2, 3),
+        (2, 255),
+        (15, 0),
+        (15, 1),
+        (15, 13),
+        (15, 14),
+        (15, 15),
+        (15, 255),
+        (255, 0),
+        (255, 1),
+        (255, 253),
+        (255, 254),
+        (255, 255),
+    ] {
+        checks(rt, h, row);
+    }
 }
 
 // ---- the lines

@@ -11,7 +11,7 @@ ghost use Rattle.slave_status.specs.Status.{
   status_of,
 };
 
-use clock::{Held, VirtualLocalTime};
+use clock::{TimeBase, VirtualLocalTime};
 use domain::{Domain, Leap};
 
 // Status bits.
@@ -28,31 +28,35 @@ pub const TIMELEAP_PAST: u8 = 0x20;
 pub fn status_at(domain: Domain, t: VirtualLocalTime) -> u8
     ensures { result ≡ status_of domain t }
 {
-    let base = domain.base;
-    let leap = domain.leap;
-    status_of(domain.settings.loss_time, base, domain.sgw, leap, t)
+    status_of(
+        domain.settings.loss_time,
+        domain.base,
+        domain.sgw,
+        domain.leap,
+        t,
+    )
 }
 
 // The status, from the base, the SGW and the leap that are stored.
-pub fn status_of(loss_time: u64, base: Held, sgw: bool, leap: Leap, t: VirtualLocalTime) -> u8
+pub fn status_of(
+    loss_time: u64,
+    base: Option<TimeBase>,
+    sgw: bool,
+    leap: Option<Leap>,
+    t: VirtualLocalTime,
+) -> u8
     ensures { result ≡ status_bits loss_time base sgw leap t }
 {
     base_bits(loss_time, base, t) + gateway_bit(sgw) + leap_bits(leap)
 }
 
-fn base_bits(loss_time: u64, base: Held, t: VirtualLocalTime) -> u8
+fn base_bits(loss_time: u64, base: Option<TimeBase>, t: VirtualLocalTime) -> u8
     ensures { (result ≡ base_bits loss_time base t) × (result ≤ 0x09) }
 {
     match base {
-        Held::Unset => 0,
-        Held::Set(b) => {
-            let at = b.at;
-            if loss_time < t.since(at) {
-                GLOBAL_TIME_BASE + TIMEOUT
-            } else {
-                GLOBAL_TIME_BASE
-            }
-        }
+        None => 0,
+        Some(b) if loss_time < t.since(b.at) => GLOBAL_TIME_BASE + TIMEOUT,
+        Some(_) => GLOBAL_TIME_BASE,
     }
 }
 
@@ -62,12 +66,12 @@ fn gateway_bit(sgw: bool) -> u8
     if sgw { SYNC_TO_GATEWAY } else { 0 }
 }
 
-fn leap_bits(leap: Leap) -> u8
+fn leap_bits(leap: Option<Leap>) -> u8
     ensures { (result ≡ leap_bits leap) × (result ≤ 0x20) }
 {
     match leap {
-        Leap::None => 0,
-        Leap::Future(_) => TIMELEAP_FUTURE,
-        Leap::Past(_) => TIMELEAP_PAST,
+        None => 0,
+        Some(Leap::Future(_)) => TIMELEAP_FUTURE,
+        Some(Leap::Past(_)) => TIMELEAP_PAST,
     }
 }

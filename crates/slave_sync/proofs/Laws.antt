@@ -15,13 +15,14 @@ use Rattle.domain.specs.declared.Domain.{Domain}
 use Rattle.domain.specs.declared.LastSync.{LastSync}
 use Rattle.domain.specs.Fields.{with_last}
 use Rattle.refusal.specs.declared.Refusal.TheVariants.{SyncCounter}
-use Rattle.slave_answer.specs.Answer.{frame_number, refused_of, Keeps}
+use Rattle.slave_answer.specs.Answer.{refused_of, Keeps}
 use Rattle.slave_counter.specs.declared.CounterVerdict.{CounterVerdict}
 use Rattle.slave_counter.specs.declared.RowCheck.{RowCheck}
 use Rattle.slave_counter.specs.declared.RowCheck.TheVariants.{NotGood, Joins, Complete}
 use Rattle.slave_counter.specs.Row.{row_of, with_row, row_refused}
 use Rattle.slave_counter.proofs.Laws.{Checked, not_joined, begins, alone, joins, completes, checked, last_stays}
 use Rattle.slave_sync.specs.Sync.{verdict_for, check_for, sync_as, sync_of, JoinsRow, first_rule}
+use Rattle.refusal.specs.Numbers.{outcome_number}
 
 module _ (d : Domain) (t : VirtualLocalTime) (s : Sync) where
   abbrev h : ℕ
@@ -43,7 +44,7 @@ module _ (d : Domain) (t : VirtualLocalTime) (s : Sync) where
   pub refusal_keeps_sync : Keeps d (sync_of d t s)
   refusal_keeps_sync = keeps (check_for d t s)
 
-  six : (v : CounterVerdict) (k : RowCheck) → Checked h row v k → frame_number (sync_as k d t s).answer ≡ 6 →
+  six : (v : CounterVerdict) (k : RowCheck) → Checked h row v k → outcome_number (sync_as k d t s).answer ≡ 6 →
       (sync_as k d t s).domain ≡ with_last d (with_row d.last (row_refused h row))
   six v k not_joined e = refl
   six v k (begins lt) e = absurd (omega arith)
@@ -52,20 +53,20 @@ module _ (d : Domain) (t : VirtualLocalTime) (s : Sync) where
   six v k (completes le) e = absurd (omega arith)
 
   pub six_keeps_sync :
-      frame_number (sync_of d t s).answer ≡ 6 →
+      outcome_number (sync_of d t s).answer ≡ 6 →
       (sync_of d t s).domain ≡ with_last d (with_row d.last (row_refused h row))
   six_keeps_sync = six (verdict_for d t s) (check_for d t s) found
 
   fifteen :
       (v : CounterVerdict) (k : RowCheck) → verdict_for d t s ≡ v → Checked h row v k →
-      frame_number (sync_as k d t s).answer ≡ 15 → JoinsRow d t s (sync_as k d t s).domain
+      outcome_number (sync_as k d t s).answer ≡ 15 → JoinsRow d t s (sync_as k d t s).domain
   fifteen v k is not_joined e = absurd (omega arith)
   fifteen v k is (begins lt) e = record { row = 0; below = lt; counted = inl (is, refl); is = refl }
   fifteen v k is (alone le) e = absurd (omega arith)
   fifteen v k is (joins lt) e = record { row = row + 1; below = lt; counted = inr (is, refl); is = refl }
   fifteen v k is (completes le) e = absurd (omega arith)
 
-  pub fifteen_keeps_sync : frame_number (sync_of d t s).answer ≡ 15 → JoinsRow d t s (sync_of d t s).domain
+  pub fifteen_keeps_sync : outcome_number (sync_of d t s).answer ≡ 15 → JoinsRow d t s (sync_of d t s).domain
   fifteen_keeps_sync = fifteen (verdict_for d t s) (check_for d t s) refl found
 
   -- ---- what any SYNC leaves

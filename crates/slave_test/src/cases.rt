@@ -69,18 +69,16 @@ pub fn timeout(rt: &impl Print) {
     let mut d = fresh(rt, 1, 0, 100, 1000, 0, 0);
     d = sync(rt, d, 70, 0, 5);
     d = fup(rt, d, 170, 0, 0, 0);
-    status(rt, d, 1070);
-    status(rt, d, 1071);
-    status(rt, d, 1_000_000_000_000_000_000);
-    status(rt, d, u64::MAX);
-    status(rt, d, 69);
+    for t in [1070, 1071, 1_000_000_000_000_000_000, u64::MAX, 69] {
+        status(rt, d, t);
+    }
     d = sync(rt, d, 1070, 1, 5);
     status(rt, d, 1070);
     status(rt, d, 1071);
     d = fup(rt, d, 1170, 1, 0, 0);
-    status(rt, d, 1170);
-    status(rt, d, 2070);
-    status(rt, d, 2071);
+    for t in [1170, 2070, 2071] {
+        status(rt, d, t);
+    }
 }
 
 // Bytes that are no frame, whatever the values: 7 and 9 of them, and an unknown type.

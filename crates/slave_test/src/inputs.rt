@@ -1,7 +1,7 @@
 // What the cases are given: settings of a slave.
 use frame::DataIds;
 use frame_check::CheckMode;
-use settings::{DomainSettings, Role, Security, UserBytes};
+use settings::{DomainSettings, Role};
 
 // A slave's settings. No byte of the DataIDs stands twice, so a wrong list or place shows.
 pub fn slave(
@@ -19,15 +19,12 @@ pub fn slave(
         loss_time,
         future_threshold,
         past_threshold,
-        period: 0,
-        confirmation_time: 0,
         ids: DataIds { sync, fup },
         role: Role::Slave,
         mode: CheckMode::Ignored,
         jump_width,
         hysteresis,
         clear_count: 1,
-        security: Security::Plain,
-        user: UserBytes(0, 0, 0),
+        ..DomainSettings::absent()
     }
 }

@@ -1,17 +1,18 @@
 // A record by what a slave's steps change, and an answer.
-use domain::{Domain, LastSync, Leap, Pairing};
-use slave_answer::FrameAnswer;
+use domain::{Domain, LastSync, Leap, Pair};
+use refusal::Outcome;
+use slave_answer::Taken;
 use test_line as line;
 
-pub fn answered(rt: &impl Print, answer: FrameAnswer) {
+pub fn answered(rt: &impl Print, answer: Outcome<Taken>) {
     match answer {
-        FrameAnswer::SyncTaken => line::word(rt, b": sync-taken 0"),
-        FrameAnswer::FirstTaken => line::word(rt, b": first-taken 0"),
-        FrameAnswer::Updated(d) => {
+        Ok(Taken::Opened) => line::word(rt, b": sync-taken 0"),
+        Ok(Taken::First) => line::word(rt, b": first-taken 0"),
+        Ok(Taken::Updated(d)) => {
             line::word(rt, b": updated 0 D");
             line::signed(rt, d);
         }
-        FrameAnswer::Refused(refusal) => {
+        Err(refusal) => {
             line::word(rt, b": refused");
             line::small(rt, refusal.number());
         }
@@ -19,34 +20,28 @@ pub fn answered(rt: &impl Print, answer: FrameAnswer) {
 }
 
 pub fn shown(rt: &impl Print, d: Domain) {
-    let base = d.base;
-    let pairing = d.pairing;
-    let last = d.last;
-    let user = d.user;
-    let leap = d.leap;
-    line::base(rt, base);
-    paired(rt, pairing);
-    seen(rt, last);
+    line::base(rt, d.base);
+    paired(rt, d.pairing);
+    seen(rt, d.last);
     line::word(rt, b"; user");
-    line::byte(rt, user.0);
-    line::byte(rt, user.1);
-    line::byte(rt, user.2);
+    line::byte(rt, d.user.0);
+    line::byte(rt, d.user.1);
+    line::byte(rt, d.user.2);
     line::word(rt, b" sgw");
     line::small(rt, d.sgw as u8);
-    leapt(rt, leap);
+    leapt(rt, d.leap);
     line::word(rt, b" updates");
     line::small(rt, d.updates);
     line::word(rt, b"\n");
 }
 
-fn paired(rt: &impl Print, pairing: Pairing) {
+fn paired(rt: &impl Print, pairing: Option<Pair>) {
     match pairing {
-        Pairing::Waiting => line::word(rt, b"; waiting"),
-        Pairing::Open(pair) => {
-            let at = pair.at;
+        None => line::word(rt, b"; waiting"),
+        Some(pair) => {
             line::word(rt, b"; pair");
             line::small(rt, pair.counter);
-            line::reading(rt, at.0);
+            line::reading(rt, pair.at.0);
             line::number(rt, pair.seconds as u64);
             line::byte(rt, pair.user0);
             line::byte(rt, pair.user1);
@@ -67,14 +62,14 @@ fn seen(rt: &impl Print, last: LastSync) {
     }
 }
 
-fn leapt(rt: &impl Print, leap: Leap) {
+fn leapt(rt: &impl Print, leap: Option<Leap>) {
     match leap {
-        Leap::None => line::word(rt, b" leap none"),
-        Leap::Future(run) => {
+        None => line::word(rt, b" leap none"),
+        Some(Leap::Future(run)) => {
             line::word(rt, b" leap future");
             line::small(rt, run);
         }
-        Leap::Past(run) => {
+        Some(Leap::Past(run)) => {
             line::word(rt, b" leap past");
             line::small(rt, run);
         }

@@ -1,9 +1,10 @@
 // The steps, each of which writes its line and gives the record back.
 use crate::{inputs, record};
 use clock::VirtualLocalTime;
-use domain::{Domain, Leap};
+use domain::{Domain, DomainStep, Leap};
 use frame::{Frame, Fup, Protection, Sync};
-use slave_answer::FrameStep;
+use refusal::Outcome;
+use slave_answer::Taken;
 use slave_frame::take_frame;
 use slave_fup::take_fup;
 use slave_status::status_at;
@@ -32,24 +33,9 @@ pub fn fresh(rt: &impl Print, j: u8, h: u8, f: u64, l: u64, future: u64, past: u
 
 // The record with a leap.
 pub fn leaping(d: Domain, leap: Leap) -> Domain {
-    let settings = d.settings;
-    let base = d.base;
-    let pairing = d.pairing;
-    let last = d.last;
-    let sending = d.sending;
-    let user = d.user;
     Domain {
-        settings,
-        base,
-        pairing,
-        last,
-        sending,
-        number: d.number,
-        user,
-        sgw: d.sgw,
-        leap,
-        updates: d.updates,
-        next_counter: d.next_counter,
+        leap: Some(leap),
+        ..d
     }
 }
 
@@ -118,10 +104,8 @@ pub fn status(rt: &impl Print, d: Domain, t: u64) {
 
 // ---- the end of a line
 
-fn ended(rt: &impl Print, step: FrameStep) -> Domain {
-    let answer = step.answer;
-    let d = step.domain;
-    record::answered(rt, answer);
-    record::shown(rt, d);
-    d
+fn ended(rt: &impl Print, step: DomainStep<Outcome<Taken>>) -> Domain {
+    record::answered(rt, step.answer);
+    record::shown(rt, step.domain);
+    step.domain
 }

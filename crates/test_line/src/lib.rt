@@ -2,8 +2,8 @@
 // speak: what is proved is that each is safe and ends. A part that cannot be written is left out.
 #![tactic(auto)]
 
-use clock::Held;
-use text::put_nine_digits;
+use clock::TimeBase;
+use text::Out;
 
 pub fn word(rt: &impl Print, text: &[u8]) {
     let _ = rt.write_all(text);
@@ -50,10 +50,8 @@ pub fn byte(rt: &impl Print, value: u8) {
 
 // Two digits for each, with nothing between them.
 pub fn hex(rt: &impl Print, bytes: &[u8]) {
-    let mut i = 0;
-    while i < bytes.len() {
-        digits(rt, bytes[i]);
-        i += 1;
+    for value in bytes {
+        digits(rt, *value);
     }
 }
 
@@ -81,15 +79,19 @@ pub fn time(rt: &impl Print, seconds: u64, nanoseconds: u32) {
 
 fn nine_digits(rt: &impl Print, n: u32) {
     let mut digits = [0u8; 9];
-    put_nine_digits(&mut digits, 0, n);
+    let mut out = Out {
+        bytes: &mut digits,
+        at: 0,
+    };
+    out.put_nine_digits(n);
     word(rt, &digits);
 }
 
 // The base of a record.
-pub fn base(rt: &impl Print, held: Held) {
+pub fn base(rt: &impl Print, held: Option<TimeBase>) {
     match held {
-        Held::Unset => word(rt, b"; base unset"),
-        Held::Set(set) => {
+        None => word(rt, b"; base unset"),
+        Some(set) => {
             let at = set.at;
             let now = set.time;
             word(rt, b"; base");

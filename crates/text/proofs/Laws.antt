@@ -1,6 +1,6 @@
 -- Laws of text in a lent buffer. Assumes nothing.
 use Prim.Native.Nat.{ℕ, suc, ◌+◌, ◌<◌}
-use mathlib.Core.Path.{◌≡◌, refl, sym, ap, subst, ◌∙◌}
+use mathlib.Core.Path.{◌≡◌, refl, sym, ap, ◌∙◌}
 use mathlib.Core.Bool.{Bool, true, false, cond}
 use mathlib.Core.List.{List, [], ◌∷◌, ◌++◌}
 use lib.Dec.{ltb}
@@ -20,41 +20,10 @@ pub then :
     Puts xs at before place middle → Puts ys place middle r after → Puts (xs ++ ys) at before r after
 then {xs} {ys} e f = record { text = f.text ∙ ap (puts ys) e.text ∙ sym (puts_append xs ys _) }
 
--- the same, where the text is known by another name
-pub named :
-    {xs ys before after : List ℕ} {at r : ℕ} → xs ≡ ys → Puts xs at before r after → Puts ys at before r after
-named {before} {after} {at} {r} e f = subst (λ zs. Puts zs at before r after) e f
-
 -- nothing to write
 pub nothing : {before : List ℕ} {at : ℕ} → Puts [] at before at before
 unfolding puts
 nothing = record { text = refl }
-
--- ---- A loop: what is left to write, written from the place on, makes the whole.
-pub record Left (left : List ℕ) (place : ℕ) (out : List ℕ) (xs : List ℕ) (at : ℕ) (before : List ℕ) : Type 0 where
-  pub makes : puts left (record { at = place; bytes = out }) ≡ puts xs (record { at = at; bytes = before })
-
-pub begun : {xs before : List ℕ} {at : ℕ} → Left xs at before xs at before
-begun = record { makes = refl }
-
-pub turn :
-    {xs rest left before out after whole : List ℕ} {at place r : ℕ} →
-    left ≡ xs ++ rest → Puts xs place out r after → Left left place out whole at before →
-    Left rest r after whole at before
-turn {xs} {rest} {before} {out} {whole} {at} {place} e f g =
-    record {
-      makes =
-          ap (puts rest) f.text
-          ∙ sym (puts_append xs rest _)
-          ∙ (subst (λ ys. Left ys place out whole at before) e g).makes;
-    }
-
-pub ended :
-    {left before out whole : List ℕ} {at place : ℕ} →
-    left ≡ [] → Left left place out whole at before → Puts whole at before place out
-unfolding puts
-ended {before} {out} {whole} {at} {place} e g =
-    record { text = (subst (λ ys. Left ys place out whole at before) e g).makes }
 
 -- ---- No byte is added or lost.
 

@@ -1,5 +1,6 @@
 -- The laws of `text`, each after what it stands on.
 pub mod Laws
+pub mod Wrote
 pub mod Lengths
 pub mod Digits
 pub mod Only

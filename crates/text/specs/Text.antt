@@ -1,5 +1,6 @@
 -- Text in a lent buffer: bytes one after another from a place on. Assumes nothing.
 use Rattle.std.specs.Prelude.{ℕ, zero, suc, ◌+◌, ◌/◌, ◌%◌, ◌^◌, ◌≡◌, cond, List, [], ◌∷◌, ◌++◌, ltb, length, set}
+use Rattle.text.specs.declared.Out.{Out}
 
 -- ---- A buffer, and the place in it where the next byte goes.
 pub record Text : Type 0 where
@@ -20,6 +21,11 @@ puts (x ∷ xs) t = puts xs (put x t)
 -- ---- The promise of all that writes: the new place, and every lent byte.
 pub record Puts (xs : List ℕ) (at : ℕ) (before : List ℕ) (r : ℕ) (after : List ℕ) : Type 0 where
   pub text : record { at = r; bytes = after } ≡ puts xs (record { at = at; bytes = before })
+
+-- ---- The same of `Out`: it holds the buffer that it held.
+pub record Wrote (xs : List ℕ) (before after : Out) : Type 0 where
+  pub same_buffer : after.bytes.ghost_name ≡ before.bytes.ghost_name
+  pub text : Puts xs before.at before.bytes.now after.at after.bytes.now
 
 -- ---- "Hex is upper case."
 abbrev pub hex_digit : ℕ → ℕ

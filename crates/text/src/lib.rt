@@ -1,4 +1,4 @@
-// Text in a lent buffer. Each function writes from a place on and answers the place after what it
+// Text in a lent buffer. Each function writes from the place on, and the place moves on by what it
 // wrote. Where the buffer ends, nothing more is written and the place stays.
 #![tactic(auto)]
 
@@ -7,74 +7,70 @@ pub mod lines;
 pub mod pieces;
 
 ghost use Rattle.std.specs.Prelude.{◌<◌, ◌≡◌, [], ◌∷◌};
-ghost use Rattle.text.specs.Text.{Puts, hex_digit, hex_byte, hex_of, digits, decimal};
+ghost use Rattle.text.specs.Text.{Wrote, hex_digit, hex_byte, hex_of, digits, decimal};
 
-#[tactic(auto, unfolding(crate::specs::Text::puts))]
-pub fn put_byte(out: &mut [u8], at: usize, byte: u8) -> usize
-    ensures { Puts (byte ∷ []) at out.old result out.new }
-{
-    if at < out.len() {
-        out[at] = byte;
-        at + 1
-    } else {
-        at
+// A lent buffer, and the place in it where the next byte goes.
+#[derive(Drop)]
+pub struct Out<'a> {
+    pub bytes: &'a mut [u8],
+    pub at: usize,
+}
+
+impl Out<'_> {
+    #[tactic(auto, unfolding(crate::specs::Text::puts))]
+    pub fn put_byte(&mut self, byte: u8)
+        ensures { Wrote (byte ∷ []) self.old self.new }
+    {
+        if self.at < self.bytes.len() {
+            self.bytes[self.at] = byte;
+            self.at += 1;
+        }
     }
-}
 
-pub fn put_bytes(out: &mut [u8], at: usize, bytes: &[u8]) -> usize
-    ensures { Puts bytes.now at out.old result out.new }
-{
-    let mut place = at;
-    let mut i = 0;
-    while i < bytes.len() {
-        place = put_byte(out, place, bytes[i]);
-        i += 1;
+    pub fn put_bytes(&mut self, bytes: &[u8])
+        ensures { Wrote bytes.now self.old self.new }
+    {
+        for byte in bytes {
+            self.put_byte(*byte);
+        }
     }
-    place
-}
 
-// Two hexadecimal digits.
-pub fn put_hex_byte(out: &mut [u8], at: usize, byte: u8) -> usize
-    ensures { Puts (hex_byte byte) at out.old result out.new }
-{
-    let low = put_byte(out, at, hex_digit(byte / 16));
-    put_byte(out, low, hex_digit(byte % 16))
-}
-
-pub fn put_hex(out: &mut [u8], at: usize, bytes: &[u8]) -> usize
-    ensures { Puts (hex_of bytes.now) at out.old result out.new }
-{
-    let mut place = at;
-    let mut i = 0;
-    while i < bytes.len() {
-        place = put_hex_byte(out, place, bytes[i]);
-        i += 1;
+    // Two hexadecimal digits.
+    pub fn put_hex_byte(&mut self, byte: u8)
+        ensures { Wrote (hex_byte byte) self.old self.new }
+    {
+        self.put_byte(hex_digit(byte / 16));
+        self.put_byte(hex_digit(byte % 16));
     }
-    place
-}
 
-// The last nine decimal digits of n.
-pub fn put_nine_digits(out: &mut [u8], at: usize, n: u32) -> usize
-    ensures { Puts (digits 9 n) at out.old result out.new }
-{
-    let mut place = at;
-    let mut power: u32 = 1_000_000_000;
-    let mut left: u8 = 9;
-    while left > 0 {
-        power /= 10;
-        place = put_byte(out, place, 48 + (n / power % 10) as u8);
-        left -= 1;
+    // Like `put_bytes`: one loop for both with the writer of a byte as a parameter is no plainer.
+    pub fn put_hex(&mut self, bytes: &[u8])
+        ensures { Wrote (hex_of bytes.now) self.old self.new }
+    {
+        for byte in bytes {
+            self.put_hex_byte(*byte);
+        }
     }
-    place
-}
 
-// n in decimal digits, without leading zeros.
-pub fn put_decimal(out: &mut [u8], at: usize, n: u64) -> usize
-    ensures { Puts (decimal n) at out.old result out.new }
-{
-    let mut text = [0u8; 20];
-    let count = io::decimal(n, &mut text);
-    put_bytes(out, at, &text[..count])
+    // The last nine decimal digits of n.
+    pub fn put_nine_digits(&mut self, n: u32)
+        ensures { Wrote (digits 9 n) self.old self.new }
+    {
+        let mut power: u32 = 1_000_000_000;
+        for _i in 0..9u8 {
+            power /= 10;
+            self.put_byte(b'0' + (n / power % 10) as u8);
+        }
+    }
+
+    // n in decimal digits, without leading zeros.
+    pub fn put_decimal(&mut self, n: u64)
+        ensures { Wrote (decimal n) self.old self.new }
+    {
+        let mut text = [0u8; 20];
+        let count = io::decimal(n, &mut text);
+        self.put_bytes(&text[..count]);
+    }
 }
 
 fn hex_digit(digit: u8) -> u8

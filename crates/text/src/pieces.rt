@@ -1,26 +1,19 @@
 // Standard input and output in large pieces: a read takes what is there, and lines go out together.
-ghost use Rattle.std.specs.Prelude.{min, ◌≡◌, length};
-ghost use Rattle.text.specs.Pieces.{KeptRest, place_for, next_item};
+ghost use Rattle.std.specs.Prelude.{◌≡◌};
+ghost use Rattle.text.specs.Pieces.{KeptRest, RoomFor, next_item};
 
+use crate::Out;
+use std::io;
 use std::io::Read;
 
-// What one read brought: so many bytes are in the buffer now, or none will come.
-#[derive(Drop)]
-pub enum Filled {
-    Holds(usize),
-    End,
-    Failed,
-}
-
-// Reads once into the buffer, after the bytes it holds.
-pub fn refill(from: &mut impl Read, input: &mut [u8], held: usize) -> Filled {
+// Reads once into the buffer, after the bytes it holds: how many it holds then, or none where no more will come.
+pub fn refill(from: &mut impl Read, input: &mut [u8], held: usize) -> io::Result<Option<usize>> {
     if input.len() < held {
-        return Filled::End;
+        return Ok(None);
     }
-    match from.read(&mut input[held..]) {
-        Err(_) => Filled::Failed,
-        Ok(0) => Filled::End,
-        Ok(got) => Filled::Holds(held + got),
+    match from.read(&mut input[held..])? {
+        0 => Ok(None),
+        got => Ok(Some(held + got)),
     }
 }
 
@@ -28,57 +21,35 @@ pub fn refill(from: &mut impl Read, input: &mut [u8], held: usize) -> Filled {
 pub fn keep_rest(input: &mut [u8], used: usize, held: usize) -> usize
     ensures { KeptRest used held input.old result input.new }
 {
-    let end = least(held, input.len());
-    let mut i = used;
-    let mut kept = 0;
-    while i < end {
-        input[kept] = input[i];
-        kept += 1;
-        i += 1;
+    let end = held.min(input.len());
+    if used < end {
+        input.copy_within(used..end, 0);
     }
-    kept
+    end.saturating_sub(used)
 }
 
-// The smaller of the two.
-pub fn least(a: usize, b: usize) -> usize
-    ensures { result ≡ min a b }
-{
-    if a < b { a } else { b }
-}
-
-// The first `length` bytes, all of them where there are fewer. False where they cannot be written.
-pub fn write_out(rt: &impl Print, out: &[u8], length: usize) -> bool {
-    if out.len() < length {
-        return rt.write_all(out).is_ok();
-    }
-    rt.write_all(&out[..length]).is_ok()
+// The bytes before the place, all of them where there are fewer. False where they cannot be written.
+pub fn write_out(rt: &impl Print, out: &Out) -> bool {
+    rt.write_all(&out.bytes[..out.at.min(out.bytes.len())])
+        .is_ok()
 }
 
 // The place for a line of at most `line` bytes: what stands in the buffer is written first where there is no
 // room for it.
-pub fn with_room(rt: &impl Print, out: &[u8], at: usize, line: usize) -> usize
-    ensures { result ≡ place_for at line (length out.now) }
+pub fn with_room(rt: &impl Print, out: &mut Out, line: usize)
+    ensures { RoomFor line out.old out.new }
 {
-    if out.len() < at {
-        write_out(rt, out, at);
-        return 0;
+    if out.bytes.len() < out.at || out.bytes.len() - out.at < line {
+        write_out(rt, out);
+        out.at = 0;
     }
-    if out.len() - at < line {
-        write_out(rt, out, at);
-        return 0;
-    }
-    at
 }
 
 // The number of the item after this one.
 pub fn next_item(item: u64) -> u64
     ensures { result ≡ next_item item }
 {
-    if item < 18_446_744_073_709_551_615 {
-        item + 1
-    } else {
-        item
-    }
+    item.saturating_add(1)
 }
 
 // Says on the error output that reading failed.

@@ -15,9 +15,10 @@ use native.Mathlib.Omega.{arith}
 use lib.ListN.{length, take, drop, replicate, length-append}
 use lib.Seq.{length-take-le, take_at}
 use Rattle.promise.proofs.Lists.{take_replicate}
-use Rattle.text.specs.Text.{Puts}
+use Rattle.text.specs.declared.Out.{Out}
+use Rattle.text.specs.Text.{Wrote}
 use Rattle.text.specs.Lines.{newline, answer_text}
-use Rattle.text.proofs.Laws.{named}
+use Rattle.text.proofs.Wrote.{named}
 use Rattle.node.specs.declared.Node.{Node}
 use Rattle.trial_step.specs.TrialLine.{Numbered}
 
@@ -42,8 +43,8 @@ module _ (k : ℕ) (most : k ≤ 512) where
     shown_is = take_at left (drop k buffer) k (long ∙ sym lent_count)
 
 pub numbered :
-    {n m : Node} (item : ℕ) {number k at end : ℕ} {before after : List ℕ} →
-    n ≡ m → k ≡ number → Puts (answer_text item k ++ newline) at before end after →
-    Numbered m number item at before (record { node = n; at = end; goes_on = true }) after
+    {n m : Node} (item : ℕ) {number k : ℕ} {before after : Out} →
+    n ≡ m → k ≡ number → Wrote (answer_text item k ++ newline) before after →
+    Numbered m number item before (record { node = n; goes_on = true }) after
 numbered item e f p =
     record { node = e; goes_on = refl; line = named (ap (λ (k : ℕ). answer_text item k ++ newline) f) p }

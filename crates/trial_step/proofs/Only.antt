@@ -1,9 +1,11 @@
--- No two results satisfy a promise of this crate. A result with lent bytes is a pair of both. No contract cites this
--- file.
+-- No two results satisfy a promise of this crate. A result is the step, with the place and the lent bytes that
+-- `Out` is left with. No contract cites this file.
 -- Assumes nothing.
 use Prim.Native.Nat.{ℕ}
 use mathlib.Core.List.{List}
 use Rattle.promise.specs.Only.{OnlyOne}
+use Rattle.text.specs.declared.Out.{Out}
+use Rattle.text.proofs.Only.{left}
 use Rattle.node.specs.declared.Node.{Node}
 use Rattle.bench_record.specs.declared.step.Step.{Step}
 use Rattle.bench_record.specs.Record.{asked_by}
@@ -15,13 +17,13 @@ use Rattle.trial_step.specs.Item.{item_of}
 use Rattle.trial_step.specs.Step.{given_frame, lent_buffer, ItemStepped, TrialStepped}
 
 pub trial_step_only :
-    (n : Node) (item : ℕ) (bytes : List ℕ) (at : ℕ) (before : List ℕ) →
-    OnlyOne (λ (r : Step × List ℕ). TrialStepped n item bytes at before r.0 r.1)
-trial_step_only n item bytes at before = go (item_of bytes)
+    (n : Node) (item : ℕ) (bytes : List ℕ) (before : Out) →
+    OnlyOne (λ (r : Step × (ℕ × List ℕ)). TrialStepped n item bytes before r.0 (left before r.1))
+trial_step_only n item bytes before = go (item_of bytes)
   where
-    go : (i : Item) → OnlyOne (λ (r : Step × List ℕ). ItemStepped i n item bytes at before r.0 r.1)
-    go Settings = stepped_only _ _ _ at before
-    go Queue = stepped_only _ _ _ at before
-    go One = stepped_only _ _ _ at before
+    go : (i : Item) → OnlyOne (λ (r : Step × (ℕ × List ℕ)). ItemStepped i n item bytes before r.0 (left before r.1))
+    go Settings = stepped_only _ _ _ before
+    go Queue = stepped_only _ _ _ before
+    go One = stepped_only _ _ _ before
     go Record =
-        record_stepped_only (asked_by bytes) (trial_line item) (given_frame bytes) (lent_buffer bytes) n item at before
+        record_stepped_only (asked_by bytes) (trial_line item) (given_frame bytes) (lent_buffer bytes) n item before

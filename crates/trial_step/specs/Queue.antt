@@ -1,5 +1,6 @@
 -- A queue of the trial, kind 6, and its line. Assumes nothing.
 use Rattle.std.specs.Prelude.{ℕ, ◌+◌, ◌*◌, min, true, List, length, get_or, take, drop, replicate}
+use Rattle.text.specs.declared.Out.{Out}
 use Rattle.text.specs.Fields.{pair_at, longs_at}
 use Rattle.node.specs.declared.Node.{Node}
 use Rattle.node_queue.specs.Queue.{queue_answer, queue_node, queue_bytes}
@@ -23,10 +24,10 @@ abbrev pub lent_answers : List ℕ → List ℕ
 lent_answers bytes = replicate (min (pair_at bytes 12) 512) 0xA5
 
 -- ---- The queue call, and the line of its answer and of the lent bytes after it.
-abbrev pub QueueStepped : Node → (item : ℕ) (bytes : List ℕ) (at : ℕ) (before : List ℕ) → Step → List ℕ → Type 0
-QueueStepped n item bytes at before r after =
+abbrev pub QueueStepped : Node → (item : ℕ) (bytes : List ℕ) (before : Out) → Step → Out → Type 0
+QueueStepped n item bytes before r after =
     let ts = given_readings bytes in
     let fs = given_frames bytes in
     let lent = lent_answers bytes in
     let answer = queue_answer (length ts) (length fs) (length lent) in
-    Stepped (queue_node answer n ts fs) true (queue_line item answer (queue_bytes answer n ts fs lent)) at before r after
+    Stepped (queue_node answer n ts fs) true (queue_line item answer (queue_bytes answer n ts fs lent)) before r after

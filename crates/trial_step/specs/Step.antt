@@ -1,10 +1,9 @@
 -- An item of the trial: a settings block, a queue, a frame on one record or any other call record, and its line.
 -- Assumes nothing.
-use Rattle.std.specs.Prelude.{ℕ, min, List, ◌++◌, get_or, take, replicate}
+use Rattle.std.specs.Prelude.{ℕ, min, List, ◌++◌, get_or, take, replicate, ⊤}
+use Rattle.text.specs.declared.Out.{Out}
 use Rattle.text.specs.Fields.{pair_at, bytes_at}
-use Rattle.settings.specs.Node.{verdict_number}
 use Rattle.node.specs.declared.Node.{Node}
-use Rattle.node.specs.declared.NewNode.{NewNode}
 use Rattle.node.specs.New.{new_of}
 use Rattle.node_call.specs.declared.Request.{Request}
 use Rattle.node_call.specs.declared.Request.TheVariants.{Frame, Read, Set, Cycle, Confirm}
@@ -18,6 +17,8 @@ use Rattle.trial_step.specs.Queue.{QueueStepped}
 use Rattle.trial_step.specs.One.{OneStepped}
 use Rattle.trial_step.specs.Item.{item_of}
 use Rattle.trial_step.specs.Block.{settings_of}
+use Rattle.node.specs.declared.NodeStep.{NodeStep}
+use Rattle.refusal.specs.Numbers.{Outcome, outcome_number}
 
 -- ---- Kind 1: the domain byte is the frame's length, its bytes are the payload's and beyond eight zeros.
 abbrev pub padded_frame : List ℕ → List ℕ
@@ -39,21 +40,21 @@ abbrev pub lent_buffer : (bytes : List ℕ) → Request → List ℕ
 lent_buffer bytes q = replicate (lent_length q bytes) 0xA5
 
 -- ---- The node that the settings give takes the place of the one before, also when refused.
-abbrev pub renewed_by : List ℕ → NewNode
+abbrev pub renewed_by : List ℕ → NodeStep (Outcome ⊤)
 renewed_by bytes = new_of (settings_of bytes)
 
-abbrev pub Renewed : (item : ℕ) (bytes : List ℕ) (at : ℕ) (before : List ℕ) → Step → List ℕ → Type 0
-Renewed item bytes at before r after =
-    let new = renewed_by bytes in Numbered new.node (verdict_number new.verdict) item at before r after
+abbrev pub Renewed : (item : ℕ) (bytes : List ℕ) (before : Out) → Step → Out → Type 0
+Renewed item bytes before r after =
+    let new = renewed_by bytes in Numbered new.node (outcome_number new.answer) item before r after
 
 -- ---- An item by what it is.
 abbrev pub ItemStepped :
-    Item → Node → (item : ℕ) (bytes : List ℕ) (at : ℕ) (before : List ℕ) → Step → List ℕ → Type 0
-ItemStepped Settings n item bytes at before r after = Renewed item bytes at before r after
-ItemStepped Queue n item bytes at before r after = QueueStepped n item bytes at before r after
-ItemStepped One n item bytes at before r after = OneStepped n item bytes at before r after
-ItemStepped Record n item bytes at before r after =
-    RecordStepped (asked_by bytes) (trial_line item) (given_frame bytes) (lent_buffer bytes) n item at before r after
+    Item → Node → (item : ℕ) (bytes : List ℕ) (before : Out) → Step → Out → Type 0
+ItemStepped Settings n item bytes before r after = Renewed item bytes before r after
+ItemStepped Queue n item bytes before r after = QueueStepped n item bytes before r after
+ItemStepped One n item bytes before r after = OneStepped n item bytes before r after
+ItemStepped Record n item bytes before r after =
+    RecordStepped (asked_by bytes) (trial_line item) (given_frame bytes) (lent_buffer bytes) n item before r after
 
-abbrev pub TrialStepped : Node → (item : ℕ) (bytes : List ℕ) (at : ℕ) (before : List ℕ) → Step → List ℕ → Type 0
-TrialStepped n item bytes at before r after = ItemStepped (item_of bytes) n item bytes at before r after
+abbrev pub TrialStepped : Node → (item : ℕ) (bytes : List ℕ) (before : Out) → Step → Out → Type 0
+TrialStepped n item bytes before r after = ItemStepped (item_of bytes) n item bytes before r after

@@ -3,7 +3,7 @@
 ghost use Rattle.std.specs.Prelude.{◌≡◌};
 ghost use Rattle.trial_step.specs.Block.{one_of, domains_of, settings_of};
 
-use crate::domain_block::domain_at;
+use crate::domain_block::domain_of;
 use settings::{DomainSettings, NodeSettings};
 use text::fields::byte_at;
 
@@ -28,10 +28,8 @@ fn domains_of(item: &[u8], blocks: u8) -> [DomainSettings; 16]
     ensures { result ≡ domains_of 16 blocks item.now }
 {
     let mut domains = [DomainSettings::absent(); 16];
-    let mut d: u8 = 0;
-    while d < 16 {
+    for d in 0..16u8 {
         domains[d as usize] = one_of(item, blocks, d);
-        d += 1;
     }
     domains
 }
@@ -40,7 +38,8 @@ fn one_of(item: &[u8], blocks: u8, d: u8) -> DomainSettings
     ensures { result ≡ one_of blocks item.now d }
 {
     if d < blocks {
-        domain_at(item, 4 + 128 * (d as u16))
+        let start = 4 + 128 * (d as usize);
+        domain_of(&item[start.min(item.len())..])
     } else {
         DomainSettings::absent()
     }

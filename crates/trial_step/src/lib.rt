@@ -26,59 +26,55 @@ use crate::line::{put_number, put_trial_line};
 use crate::one::take_one;
 use crate::queue::take_queue;
 use bench_record::step::{Step, bad_record};
-use bench_record::{Asked, asked_by};
+use bench_record::{asked_by, payload};
 use node::Node;
 use node_call::{Request, call};
+use refusal::Numbered;
+use text::Out;
 use text::fields::{byte_at, pair_at};
-use text::pieces::least;
 
 // The item's line, and the node after it. A bad record ends the run.
-pub fn trial_step(node: Node, item: u64, bytes: &[u8], out: &mut [u8], at: usize) -> Step
-    ensures { TrialStepped node item bytes.now at out.old result out.new }
+pub fn trial_step(node: Node, item: u64, bytes: &[u8], out: &mut Out) -> Step
+    ensures { TrialStepped node item bytes.now out.old result out.new }
 {
     match item_of(bytes) {
-        Item::Settings => return renew(item, bytes, out, at),
-        Item::Queue => return take_queue(node, item, bytes, out, at),
-        Item::One => return take_one(node, item, bytes, out, at),
+        Item::Settings => return renew(item, bytes, out),
+        Item::Queue => return take_queue(node, item, bytes, out),
+        Item::One => return take_one(node, item, bytes, out),
         Item::Record => {}
     }
-    let Asked::Call(request) = asked_by(bytes) else {
-        return bad_record(node, item, out, at);
+    let Some(request) = asked_by(bytes) else {
+        return bad_record(node, item, out);
     };
-    ask(node, item, request, bytes, out, at)
+    ask(node, item, request, bytes, out)
 }
 
 // The call that a record asks for, with the record's frame and a lent buffer of A5s, and its line.
-fn ask(node: Node, item: u64, request: Request, bytes: &[u8], out: &mut [u8], at: usize) -> Step
+fn ask(node: Node, item: u64, request: Request, bytes: &[u8], out: &mut Out) -> Step
     ensures { Answered (trial_line item) node request (given_frame bytes.now)
-        (lent_buffer bytes.now request) at out.old result out.new }
+        (lent_buffer bytes.now request) out.old result out.new }
 {
     let frame = padded_frame(bytes);
     let frame_length = byte_at(bytes, 3) as usize;
+    // an array with a length beside, here and in `queue`: no heap
     let mut buffer = [0xA5u8; 512];
     let length = lent_length(request, bytes);
     let called = call(node, request, &frame[..frame_length], &mut buffer[..length]);
-    let told = called.answer;
-    let after = called.node;
-    let end = put_trial_line(out, at, item, told, &buffer[..length]);
+    put_trial_line(out, item, called.answer, &buffer[..length]);
     Step {
-        node: after,
-        at: end,
+        node: called.node,
         goes_on: true,
     }
 }
 
 // The node of a settings block, also where it is refused.
-fn renew(item: u64, bytes: &[u8], out: &mut [u8], at: usize) -> Step
-    ensures { Renewed item bytes.now at out.old result out.new }
+fn renew(item: u64, bytes: &[u8], out: &mut Out) -> Step
+    ensures { Renewed item bytes.now out.old result out.new }
 {
     let new = Node::new(settings_of(bytes));
-    let verdict = new.verdict;
-    let node = new.node;
-    let end = put_number(out, at, item, verdict.number());
+    put_number(out, item, new.answer.number());
     Step {
-        node,
-        at: end,
+        node: new.node,
         goes_on: true,
     }
 }
@@ -92,8 +88,8 @@ fn lent_length(request: Request, bytes: &[u8]) -> usize
         Request::Frame(_) => 0,
         Request::Read(_, _) => 0,
         Request::Set(_, _, _, _) => 0,
-        Request::Cycle(_) => least(pair_at(bytes, 12) as usize, 512),
-        Request::Confirm(_, _, _) => least(pair_at(bytes, 13) as usize, 512),
+        Request::Cycle(_) => (pair_at(bytes, 12) as usize).min(512),
+        Request::Confirm(_, _, _) => (pair_at(bytes, 13) as usize).min(512),
     }
 }
 
@@ -102,10 +98,6 @@ fn padded_frame(bytes: &[u8]) -> [u8; 255]
     ensures { result ≡ padded_frame bytes.now }
 {
     let mut frame = [0u8; 255];
-    let mut i = 0;
-    while i < 8 {
-        frame[i] = byte_at(bytes, 12 + i);
-        i += 1;
-    }
+    frame[..8].copy_from_slice(&payload(bytes));
     frame
 }

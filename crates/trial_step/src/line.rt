@@ -1,6 +1,6 @@
 // The trial's line of an answer. A lent buffer is shown whole, also where the call is refused.
 ghost use Rattle.std.specs.Prelude.{◌≡◌, ◌++◌};
-ghost use Rattle.text.specs.Text.{Puts};
+ghost use Rattle.text.specs.Text.{Wrote};
 ghost use Rattle.text.specs.Lines.{newline, answer_text};
 ghost use Rattle.node.specs.CycleAnswer.{cycle_count};
 ghost use Rattle.trial_step.specs.TrialLine.{
@@ -12,102 +12,89 @@ ghost use Rattle.trial_step.specs.TrialLine.{
 };
 
 use bench_record::line::put_shown;
-use call_read::ReadAnswer;
-use node::CycleAnswer;
+use call_read::Shown;
 use node_call::CallAnswer;
-use node_queue::QueueAnswer;
-use text::lines::put_answer;
-use text::{put_byte, put_decimal, put_hex};
+use refusal::{Numbered, Outcome};
+use text::Out;
 
 // `buffer` is the lent buffer after the call.
-pub fn put_trial_line(
-    out: &mut [u8],
-    at: usize,
-    item: u64,
-    answer: CallAnswer,
-    buffer: &[u8],
-) -> usize
-    ensures { Puts (trial_line item answer buffer.now) at out.old result out.new }
+pub fn put_trial_line(out: &mut Out, item: u64, answer: CallAnswer, buffer: &[u8])
+    ensures { Wrote (trial_line item answer buffer.now) out.old out.new }
 {
-    let values = put_answer(out, at, item, answer.number());
-    let end = put_values(out, values, answer, buffer);
-    put_byte(out, end, b'\n')
+    out.put_answer(item, answer.number());
+    put_values(out, answer, buffer);
+    out.put_byte(b'\n');
 }
 
 // A queue's line; `buffer` is the answer buffer after the call.
-pub fn put_queue_line(
-    out: &mut [u8],
-    at: usize,
-    item: u64,
-    answer: QueueAnswer,
-    buffer: &[u8],
-) -> usize
-    ensures { Puts (queue_line item answer buffer.now) at out.old result out.new }
+pub fn put_queue_line(out: &mut Out, item: u64, queued: Outcome<()>, buffer: &[u8])
+    ensures { Wrote (queue_line item queued buffer.now) out.old out.new }
 {
-    let then = put_answer(out, at, item, answer.number());
-    let end = put_buffer(out, then, buffer);
-    put_byte(out, end, b'\n')
+    out.put_answer(item, queued.number());
+    put_buffer(out, buffer);
+    out.put_byte(b'\n');
 }
 
 // A line that has the number alone.
-pub(crate) fn put_number(out: &mut [u8], at: usize, item: u64, number: u8) -> usize
-    ensures { Puts (answer_text item number ++ newline) at out.old result out.new }
+pub(crate) fn put_number(out: &mut Out, item: u64, number: u8)
+    ensures { Wrote (answer_text item number ++ newline) out.old out.new }
 {
-    let end = put_answer(out, at, item, number);
-    put_byte(out, end, b'\n')
+    out.put_answer(item, number);
+    out.put_byte(b'\n');
 }
 
 // What comes after the number.
-fn put_values(out: &mut [u8], at: usize, answer: CallAnswer, buffer: &[u8]) -> usize
-    ensures { Puts (trial_values answer buffer.now) at out.old result out.new }
+fn put_values(out: &mut Out, answer: CallAnswer, buffer: &[u8])
+    ensures { Wrote (trial_values answer buffer.now) out.old out.new }
 {
     match answer {
-        CallAnswer::Frame(_) => at,
-        CallAnswer::Read(read) => put_read(out, at, read),
-        CallAnswer::Set(_) => at,
+        CallAnswer::Frame(_) => {}
+        CallAnswer::Read(read) => put_read(out, read),
+        CallAnswer::Set(_) => {}
         CallAnswer::Cycle(cycle) => {
-            let digits = put_byte(out, at, b' ');
-            let then = put_decimal(out, digits, count_of(cycle));
-            put_buffer(out, then, buffer)
+            out.put_byte(b' ');
+            out.put_decimal(count_of(cycle));
+            put_buffer(out, buffer);
         }
-        CallAnswer::Confirm(_) => put_buffer(out, at, buffer),
+        CallAnswer::Confirm(_) => put_buffer(out, buffer),
     }
 }
 
 // The time, the status, the user bytes and the update counter.
-fn put_read(out: &mut [u8], at: usize, read: ReadAnswer) -> usize
-    ensures { Puts (trial_read read) at out.old result out.new }
+fn put_read(out: &mut Out, read: Outcome<Shown>)
+    ensures { Wrote (trial_read read) out.old out.new }
 {
     match read {
-        ReadAnswer::Refused(_) => at,
-        ReadAnswer::Time(shown) => {
+        Err(_) => {}
+        Ok(shown) => {
             let user = shown.user;
-            let blank = put_shown(out, at, shown);
-            let bytes = put_byte(out, blank, b' ');
-            let second = put_hex(out, bytes, &[user.0, user.1, user.2]);
-            let updates = put_byte(out, second, b' ');
-            put_decimal(out, updates, shown.updates as u64)
+            put_shown(out, shown);
+            out.put_byte(b' ');
+            out.put_hex(&[user.0, user.1, user.2]);
+            out.put_byte(b' ');
+            out.put_decimal(shown.updates as u64);
         }
     }
 }
 
 // A refused main cycle sent none.
-fn count_of(cycle: CycleAnswer) -> u64
+fn count_of(cycle: Outcome<usize>) -> u64
     ensures { result ≡ cycle_count cycle }
 {
     match cycle {
-        CycleAnswer::Sent(count) => count as u64,
-        CycleAnswer::Refused(_) => 0,
+        Ok(count) => count as u64,
+        Err(_) => 0,
     }
 }
 
 // An empty buffer is a dash.
-fn put_buffer(out: &mut [u8], at: usize, buffer: &[u8]) -> usize
-    ensures { Puts (buffer_text buffer.now) at out.old result out.new }
+fn put_buffer(out: &mut Out, buffer: &[u8])
+    ensures { Wrote (buffer_text buffer.now) out.old out.new }
 {
-    let then = put_byte(out, at, b' ');
+    out.put_byte(b' ');
     if buffer.len() == 0 {
-        return put_byte(out, then, b'-');
+        out.put_byte(b'-');
+        return;
     }
-    put_hex(out, then, buffer)
+    out.put_hex(buffer);
 }

@@ -8,13 +8,15 @@ use bench_record::step::Step;
 use clock::VirtualLocalTime;
 use lent_frame::frame_lent;
 use node::Node;
+use refusal::Numbered;
 use round::turns::PLACES;
+use text::Out;
 use text::fields::{byte_at, long_at};
 
 // The frame of an item on the record at its place, modulo 16, and its line. The record is lent for the call, and stored
 // as it comes back with the reading that is kept.
-pub(crate) fn take_one(mut node: Node, item: u64, bytes: &[u8], out: &mut [u8], at: usize) -> Step
-    ensures { OneStepped node item bytes.now at out.old result out.new }
+pub(crate) fn take_one(mut node: Node, item: u64, bytes: &[u8], out: &mut Out) -> Step
+    ensures { OneStepped node item bytes.now out.old result out.new }
 {
     let code = byte_at(bytes, 3);
     let t = VirtualLocalTime(long_at(bytes, 4));
@@ -27,10 +29,9 @@ pub(crate) fn take_one(mut node: Node, item: u64, bytes: &[u8], out: &mut [u8], 
     let kept = call.kept;
     node.domains[place] = record;
     node.kept = kept;
-    let end = put_number(out, at, item, answer.number());
+    put_number(out, item, answer.number());
     Step {
         node,
-        at: end,
         goes_on: true,
     }
 }

@@ -9,24 +9,24 @@ use crate::line::put_queue_line;
 use bench_record::step::Step;
 use node::Node;
 use node_queue::on_queue;
+use text::Out;
 use text::fields::{byte_at, long_at, pair_at};
-use text::pieces::least;
 
 // How many frame bytes follow the readings: above 4,096 so many.
 pub(crate) fn frame_bytes(bytes: &[u8]) -> usize
     ensures { result ≡ frame_bytes bytes.now }
 {
-    least(pair_at(bytes, 14) as usize, 4096)
+    (pair_at(bytes, 14) as usize).min(4096)
 }
 
 // The queue call of an item, with a lent buffer of A5s, and its line.
-pub(crate) fn take_queue(node: Node, item: u64, bytes: &[u8], out: &mut [u8], at: usize) -> Step
-    ensures { QueueStepped node item bytes.now at out.old result out.new }
+pub(crate) fn take_queue(node: Node, item: u64, bytes: &[u8], out: &mut Out) -> Step
+    ensures { QueueStepped node item bytes.now out.old result out.new }
 {
     let count = byte_at(bytes, 3) as usize;
     let readings = readings_of(bytes);
     let mut buffer = [0xA5u8; 512];
-    let room = least(pair_at(bytes, 12) as usize, 512);
+    let room = (pair_at(bytes, 12) as usize).min(512);
     let queued = on_queue(
         node,
         &readings[..count],
@@ -35,10 +35,9 @@ pub(crate) fn take_queue(node: Node, item: u64, bytes: &[u8], out: &mut [u8], at
     );
     let answer = queued.answer;
     let after = queued.node;
-    let end = put_queue_line(out, at, item, answer, &buffer[..room]);
+    put_queue_line(out, item, answer, &buffer[..room]);
     Step {
         node: after,
-        at: end,
         goes_on: true,
     }
 }
@@ -48,8 +47,8 @@ fn frames_of(bytes: &[u8]) -> &[u8]
     ensures { result.now ≡ given_frames bytes.now }
 {
     let count = byte_at(bytes, 3) as usize;
-    let start = least(20 + 8 * count, bytes.len());
-    let end = start + least(frame_bytes(bytes), bytes.len() - start);
+    let start = (20 + 8 * count).min(bytes.len());
+    let end = start + frame_bytes(bytes).min(bytes.len() - start);
     &bytes[start..end]
 }
 
@@ -58,10 +57,8 @@ fn readings_of(bytes: &[u8]) -> [u64; 255]
     ensures { result ≡ longs_at 255 bytes.now 20 }
 {
     let mut readings = [0u64; 255];
-    let mut i = 0;
-    while i < 255 {
+    for i in 0..255 {
         readings[i] = long_at(bytes, 20 + 8 * (i as u16));
-        i += 1;
     }
     readings
 }

@@ -3,6 +3,7 @@
 --   senders_served    the frames that it gives name, in their order, the first S due domains from where the round stands
 --   sends_served      so a domain sends exactly if it is one of these
 -- Assumes nothing.
+use Rattle.std.specs.Prelude.{None, Option, Some, is_some}
 use Prim.Native.Nat.{ℕ, ◌<◌}
 use mathlib.Core.Path.{◌≡◌, refl, sym, ap, ◌∙◌}
 use mathlib.Core.Bool.{Bool, true, false, ◌&&◌, ◌||◌, false≢true}
@@ -19,39 +20,37 @@ use Rattle.settings.specs.Node.{places}
 use Rattle.admission.specs.Reading.{is_good_reading}
 use Rattle.domain.specs.declared.Domain.{Domain}
 use Rattle.domain.specs.Records.{record_at}
-use Rattle.master_rules.specs.declared.due.Due.{Due}
-use Rattle.master_rules.specs.declared.due.Due.TheVariants.{At, No}
-use Rattle.master_send.specs.declared.SendAnswer.{SendAnswer}
-use Rattle.master_send.specs.declared.SendAnswer.TheVariants.{Sent, NotDue}
-use Rattle.master_send.specs.Send.{is_at, due_in, is_due, send_as, send_of}
+use Rattle.master_send.specs.Send.{due_in, is_due, send_as, send_of}
 use Rattle.round.specs.Round.{frames_by}
 use Rattle.round.specs.FirstDue.{served_of, Each, NotIn, frame_by}
 use Rattle.round.proofs.Places.{each_with}
 use Rattle.round.proofs.FirstDue.{round_frames, served_below, served_due}
 use Rattle.node.specs.declared.Node.{Node}
-use Rattle.node.specs.declared.cycles.NodeCycle.{NodeCycle}
 use Rattle.node.specs.Frame.{addressed_by}
-use Rattle.node.specs.CycleAnswer.{cycle_number}
 use Rattle.node.specs.Cycle.{is_room_for, gone_from, cycled_by}
 use Rattle.node_call.specs.Calls.{cycle, node_after, answer_to, number_in, given_by}
 use Rattle.node_laws.specs.Good.{Good}
 use Rattle.node_laws.proofs.Cycles.{addressed, cycle_given}
 use Rattle.waits.specs.Waits.{is_completed, is_among, does_send}
+use Rattle.frame.specs.declared.values.Sync.{Sync}
+use Rattle.master_rules.specs.declared.due.Due.{Due}
+use Rattle.node.specs.declared.NodeStep.{NodeStep}
+use Rattle.refusal.specs.Numbers.{Outcome, outcome_number}
 
 -- ---- the one frame of a domain that is due names it
 
-abbrev SendsFor : (i : ℕ) → SendAnswer → Type 0
-SendsFor i (Sent s) = s.domain ≡ i
-SendsFor i NotDue = ⊥
+abbrev SendsFor : (i : ℕ) → Option Sync → Type 0
+SendsFor i (Some s) = s.domain ≡ i
+SendsFor i None = ⊥
 
-sends_for : (x : Due) (d : Domain) (t : VirtualLocalTime) → is_at x ≡ true → SendsFor d.number (send_as x d t).answer
-sends_for (At seconds nanoseconds) d t e = refl
-sends_for No d t e = absurd (false≢true e)
+sends_for : (x : Option Due) (d : Domain) (t : VirtualLocalTime) → is_some x ≡ true → SendsFor d.number (send_as x d t).answer
+sends_for (Some due) d t e = refl
+sends_for None d t e = absurd (false≢true e)
 
 names_it :
-    (a : SendAnswer) (ids : DataIds) (i : ℕ) → i < places → SendsFor i a → map addressed_by (frames_by a ids) ≡ i ∷ []
-names_it (Sent s) ids i h e = ap (λ (a : ℕ). a ∷ []) (addressed ids (sync s) (rw e h) ∙ e)
-names_it NotDue ids i h e = absurd e
+    (a : Option Sync) (ids : DataIds) (i : ℕ) → i < places → SendsFor i a → map addressed_by (frames_by a ids) ≡ i ∷ []
+names_it (Some s) ids i h e = ap (λ (a : ℕ). a ∷ []) (addressed ids (sync s) (rw e h) ∙ e)
+names_it None ids i h e = absurd e
 
 -- ---- so that the frames of places that each name themselves name these places
 all_name :
@@ -80,8 +79,8 @@ module _ (n : Node) (t : VirtualLocalTime) (out : List ℕ) where
   answered : is_completed n (cycle t out) ≡ true → number_in (answer_to n (cycle t out)) ≡ 0
   answered e = omega (arith, eqb-true)
 
-  abbrev Cycled : NodeCycle → Type 0
-  Cycled r = cycle_number r.answer ≡ 0 → r.node ≡ (cycled_by n t (gone_from n t)).node
+  abbrev Cycled : NodeStep (Outcome ℕ) → Type 0
+  Cycled r = outcome_number r.answer ≡ 0 → r.node ≡ (cycled_by n t (gone_from n t)).node
 
   pub completed_cycle :
       is_completed n (cycle t out) ≡ true → node_after n (cycle t out) ≡ (cycled_by n t (gone_from n t)).node

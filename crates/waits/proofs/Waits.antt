@@ -5,6 +5,7 @@
 --   waits_most     so the completed main cycles that it waits for, times S, are fewer than the masters
 --   each_sends     the theorem: `EachSends`
 -- Assumes nothing.
+use Rattle.std.specs.Prelude.{Option, is_some}
 use Prim.Native.Nat.{ℕ, ◌+◌, ◌-◌, ◌*◌, ◌%◌, ◌≤◌, ◌<◌}
 use mathlib.Core.Path.{◌≡◌, refl, sym, ap, ◌∙◌, subst}
 use mathlib.Core.Logic.{◌≢◌}
@@ -28,17 +29,14 @@ use Rattle.settings.specs.Node.{places}
 use Rattle.admission.specs.Reading.{is_good_reading}
 use Rattle.domain.specs.declared.Domain.{Domain}
 use Rattle.domain.specs.Records.{record_at}
-use Rattle.master_rules.specs.declared.due.Due.{Due}
 use Rattle.master_rules.specs.Due.{is_master}
 use Rattle.master_rules.proofs.Laws.{by_due}
-use Rattle.master_send.specs.Send.{is_at, is_due}
+use Rattle.master_send.specs.Send.{is_due}
 use Rattle.round.specs.FirstDue.{walk, served_of, NotIn, next_behind}
 use Rattle.round.proofs.Places.{sum_of}
 use Rattle.round.proofs.Walk.{walk_all, walk_sum}
 use Rattle.round.proofs.FirstDue.{round_next}
 use Rattle.node.specs.declared.Node.{Node}
-use Rattle.node.specs.declared.cycles.NodeCycle.{NodeCycle}
-use Rattle.node.specs.CycleAnswer.{cycle_number}
 use Rattle.node.specs.Cycle.{is_room_for}
 use Rattle.node_call.specs.Calls.{Call, frame, read, set, cycle, confirm, reading_of, node_after}
 use Rattle.node_laws.specs.Reachable.{IsCall, AreCalls}
@@ -58,6 +56,9 @@ use Rattle.waits.specs.Waits.{
 }
 use Rattle.waits.proofs.Ahead.{ahead, ahead_same, ahead_fewer, passed_over}
 use Rattle.waits.proofs.Senders.{among_not, completed_cycle, sends_served}
+use Rattle.master_rules.specs.declared.due.Due.{Due}
+use Rattle.node.specs.declared.NodeStep.{NodeStep}
+use Rattle.refusal.specs.Numbers.{Outcome, outcome_number}
 
 -- ---- the masters ahead of a place, from where the round stands
 
@@ -88,7 +89,7 @@ round_stays n (frame t bytes) = λ e. refl
 round_stays n (read domain t) = λ e. refl
 round_stays n (set domain t s ns) = λ e. refl
 round_stays n (cycle t out) =
-    let P : NodeCycle → Type 0 = λ r. eqb (cycle_number r.answer) 0 ≡ false → r.node.round ≡ n.round in
+    let P : NodeStep (Outcome ℕ) → Type 0 = λ r. eqb (outcome_number r.answer) 0 ≡ false → r.node.round ≡ n.round in
     either P (is_good_reading n.kept t)
     (either P (is_room_for n (length out)) (λ e. absurd (true≢false e)) (λ e. refl)) (λ e. refl)
 round_stays n (confirm domain t counter out) = λ e. refl
@@ -105,7 +106,7 @@ call_passes n c i e =
 -- who is due is a master
 due_master : (d : Domain) (t : VirtualLocalTime) → is_due d t ≡ true → is_master d.settings.role ≡ true
 due_master d t =
-    by_due (λ (due : Due). is_at due ≡ true → is_master d.settings.role ≡ true) d.settings.role
+    by_due (λ (due : Option Due). is_some due ≡ true → is_master d.settings.role ≡ true) d.settings.role
     d.settings.period d.base d.sending t
     (λ e. absurd (false≢true e)) (λ b told e. ap is_master told.master)
 

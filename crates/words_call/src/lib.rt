@@ -3,15 +3,16 @@
 // the words and every lent byte stay as they were.
 #![tactic(auto)]
 
-ghost use Rattle.std.specs.Prelude.{◌≡◌, length};
+ghost use Rattle.std.specs.Prelude.{◌≡◌};
 ghost use Rattle.words_call.specs.Calls.{shown_words, ReadIn, SetIn, ConfirmedBy};
 
 use call_confirm::confirm_call;
-use call_read::{ReadAnswer, Shown, read_call};
+use call_read::{Shown, read_call};
 use call_set::set_call;
 use clock::VirtualLocalTime;
 use node_words::{NODE_WORDS, put_base, put_sent, record_in};
 use record_words::packed;
+use refusal::Numbered;
 
 // The words of what a read shows: its seconds; packed(nanoseconds; status, user 0, 1, 2); the update counter.
 pub const SHOWN_WORDS: usize = 3;
@@ -22,23 +23,24 @@ pub fn read_in(node: &[u64; NODE_WORDS], domain: u8, t: u64, shown: &mut [u64; S
 {
     let kept = VirtualLocalTime(node[0]);
     match read_call(record_in(node, domain), kept, domain, VirtualLocalTime(t)) {
-        ReadAnswer::Refused(refusal) => refusal.number(),
-        ReadAnswer::Time(read) => {
+        Err(refusal) => refusal.number(),
+        Ok(read) => {
             put_shown(shown, read);
             0
         }
     }
 }
 
-fn put_shown(shown: &mut [u64], read: Shown)
-    requires { length shown.old ≡ 3 }
+fn put_shown(shown: &mut [u64; SHOWN_WORDS], read: Shown)
     ensures { shown.new ≡ shown_words read }
 {
     let time = read.time;
     let user = read.user;
-    shown[0] = time.0;
-    shown[1] = packed(time.1, read.status, user.0, user.1, user.2);
-    shown[2] = read.updates as u64;
+    *shown = [
+        time.0,
+        packed(time.1, read.status, user.0, user.1, user.2),
+        u64::from(read.updates),
+    ];
 }
 
 // The base of a domain holds the given time at t: 1, 4, 9.

@@ -3,6 +3,7 @@
 --   onward     and still after one turn
 --   at_end     so that with no turn left the round is done
 -- Assumes nothing.
+use Rattle.std.specs.Prelude.{Option}
 use Prim.Native.Nat.{ℕ, zero, suc, ◌+◌}
 use mathlib.Core.Path.{◌≡◌, refl, sym, ap, ◌∙◌}
 use mathlib.Core.List.{List}
@@ -12,13 +13,14 @@ use lib.ListN.{length}
 use Rattle.clock.specs.declared.reading.VirtualLocalTime.{VirtualLocalTime}
 use Rattle.frame.specs.declared.data_ids.DataIds.{DataIds}
 use Rattle.settings.specs.Node.{places}
-use Rattle.master_send.specs.declared.SendStep.{SendStep}
 use Rattle.round.specs.Turn.{turn_of, next_place, next_after}
 use Rattle.round.specs.Round.{frames_by, sent_after, pasted}
 use Rattle.node_words.specs.Words.{record_of}
 use Rattle.round.proofs.Rest.{pasted_turn, counted_turn}
 use Rattle.words_cycle.specs.Cycle.{turn_words, Went, before, goes, went_by, GoneIn}
 use Rattle.words_cycle.proofs.Turned.{One}
+use Rattle.domain.specs.declared.DomainStep.{DomainStep}
+use Rattle.frame.specs.declared.values.Sync.{Sync}
 
 -- ---- what is left decides
 pub record Rest
@@ -32,7 +34,7 @@ pub record Rest
 module _ (whole : Went) (first : List ℕ) (most : ℕ) (t : VirtualLocalTime) (k at sent : ℕ) (words : List ℕ)
     (next : ℕ) (out words' : List ℕ) (sent' next' : ℕ) (out' : List ℕ)
     (p : One words at sent most next t out words' sent' next' out') where
-  abbrev one : SendStep
+  abbrev one : DomainStep (Option Sync)
   one = turn_of (ltb sent most) (record_of words at) t
 
   abbrev ids : DataIds

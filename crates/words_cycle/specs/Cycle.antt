@@ -1,26 +1,25 @@
 -- Paper 01, "A master's domain": a main cycle of a node in words. Assumes nothing.
-use Rattle.std.specs.Prelude.{ℕ, zero, suc, ◌*◌, ◌%◌, ◌≡◌, Bool, true, false, cond, List, [], ◌∷◌, ◌++◌, eqb, ltb, leb, length, set}
+use Rattle.std.specs.Prelude.{ℕ, zero, suc, ◌*◌, ◌%◌, ◌≡◌, Bool, true, false, cond, List, [], ◌∷◌, ◌++◌, eqb, ltb, leb, length, set, None, Option, Some}
 use Rattle.clock.specs.declared.reading.VirtualLocalTime.{VirtualLocalTime}
 use Rattle.refusal.specs.declared.Refusal.TheVariants.{Reading, NoRoom}
 use Rattle.refusal.specs.Numbers.{number_of}
 use Rattle.settings.specs.Node.{places}
 use Rattle.admission.specs.Reading.{is_good_reading}
-use Rattle.master_send.specs.declared.SendAnswer.{SendAnswer}
-use Rattle.master_send.specs.declared.SendAnswer.TheVariants.{Sent, NotDue}
-use Rattle.master_send.specs.declared.SendStep.{SendStep}
 use Rattle.master_send.specs.Send.{send_of}
 use Rattle.round.specs.Turn.{turn_of, next_place, next_after}
 use Rattle.round.specs.Round.{frames_by, sent_after, pasted}
 use Rattle.node_words.specs.Words.{kept_of, record_of, sent_put}
 use Rattle.node_words.specs.Node.{syncs_of, round_of, head_word}
 use Rattle.words_cycle.specs.declared.turns.Gone.{Gone}
+use Rattle.domain.specs.declared.DomainStep.{DomainStep}
+use Rattle.frame.specs.declared.values.Sync.{Sync}
 
 -- ---- The words after a record's turn: those of its SYNC where it sent.
-abbrev pub has_sent : SendAnswer → Bool
-has_sent (Sent sync) = true
-has_sent NotDue = false
+abbrev pub has_sent : Option Sync → Bool
+has_sent (Some sync) = true
+has_sent None = false
 
-abbrev pub turn_words : SendStep → List ℕ → (at : ℕ) → List ℕ
+abbrev pub turn_words : DomainStep (Option Sync) → List ℕ → (at : ℕ) → List ℕ
 turn_words s words at = cond (has_sent s.answer) (sent_put words at s.domain) words
 
 -- ---- The words after some turns, where the next round starts, and the frames sent.

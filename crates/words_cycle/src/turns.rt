@@ -2,14 +2,14 @@
 ghost use Rattle.std.specs.Prelude.{◌≤◌, ◌<◌, ◌≡◌, length};
 ghost use Rattle.settings.specs.Node.{places};
 ghost use Rattle.master_send.specs.Send.{is_due};
-ghost use Rattle.node_words.specs.Words.{node_size, record_by, record_of};
+ghost use Rattle.node_words.specs.Words.{record_by, record_of};
 ghost use Rattle.words_cycle.specs.Cycle.{TurnedIn, GoneIn};
 
 use clock::VirtualLocalTime;
 use frame::Frame;
 use frame_write::write_frame;
-use master_rules::{Due, due_at};
-use master_send::{SendAnswer, send};
+use master_rules::due_at;
+use master_send::send;
 use node_words::{HEAD_WORDS, NODE_WORDS, RECORD_WORDS, put_sent, record_in};
 use record_words::{SETTINGS_WORDS, held_of, role_of, sending_of};
 use round::turns::PLACES;
@@ -36,8 +36,7 @@ pub(crate) fn go_in(
     let mut at = first % PLACES;
     let mut next = first;
     let mut sent: u8 = 0;
-    let mut turns: usize = 0;
-    while turns < NodeSettings::DOMAINS {
+    for _turns in 0..NodeSettings::DOMAINS {
         if sent < most {
             if turn_in(node, at, t, out, sent) {
                 sent += 1;
@@ -45,7 +44,6 @@ pub(crate) fn go_in(
             }
         }
         at = (at + 1) % PLACES;
-        turns += 1;
     }
     Gone { next, sent }
 }
@@ -72,18 +70,17 @@ fn turn_in(
     let step = send(record, t);
     let answer = step.answer;
     let after = step.domain;
-    let SendAnswer::Sent(sync) = answer else {
+    let Some(sync) = answer else {
         return false;
     };
     put_sent(node, at, after);
-    write_frame(Frame::Sync(sync), ids, out, 8 * (sent as usize));
+    let _ = write_frame(Frame::Sync(sync), ids, out, 8 * (sent as usize));
     true
 }
 
 // Whether the record at a place is due, by the words that this needs.
-fn due_in(node: &[u64], at: usize, t: VirtualLocalTime) -> bool
-    requires node_len { length node.now ≡ node_size }
-    requires at_lt_places { at < places }
+fn due_in(node: &[u64; NODE_WORDS], at: usize, t: VirtualLocalTime) -> bool
+    requires { at < places }
     ensures { result ≡ is_due (record_of node.now at) t }
 {
     let from = HEAD_WORDS + RECORD_WORDS * at;
@@ -91,6 +88,7 @@ fn due_in(node: &[u64], at: usize, t: VirtualLocalTime) -> bool
     due_by(&node[from..state], &node[state..state + SETTINGS_WORDS], t)
 }
 
+// Slices: arrays by `first_chunk` are no plainer, since an `Option` stands between, and the code is as large.
 fn due_by(given: &[u64], state: &[u64], t: VirtualLocalTime) -> bool
     requires given_len { length given.now ≡ 11 }
     requires state_len { length state.now ≡ 11 }
@@ -102,11 +100,5 @@ fn due_by(given: &[u64], state: &[u64], t: VirtualLocalTime) -> bool
     }
     let base = held_of(state[4], state[5], state[6]);
     let sending = sending_of(state[8], state[9], state[10]);
-    match due_at(role_of(kinds), given[4], base, sending, t) {
-        Due::At {
-            seconds: _,
-            nanoseconds: _,
-        } => true,
-        Due::No => false,
-    }
+    due_at(role_of(kinds), given[4], base, sending, t).is_some()
 }

@@ -3,8 +3,9 @@ ghost use Rattle.std.specs.Prelude.{◌≡◌};
 ghost use Rattle.words_frame.specs.Queue.{QueuedIn};
 
 use crate::frames::take_in;
-use node_queue::{QueueAnswer, judge};
+use node_queue::judge;
 use node_words::NODE_WORDS;
+use refusal::Numbered;
 
 // Frames of eight bytes one after another, each at its reading; the number of each goes to its place in `answers`: 12,
 // 2. Bytes beyond them stay.
@@ -17,15 +18,12 @@ pub fn queue_in(
     ensures { QueuedIn node.old readings.now frames.now answers.old result
         node.new answers.new }
 {
-    let judged = judge(readings.len(), frames.len(), answers.len());
-    if let QueueAnswer::Refused(refusal) = judged {
+    if let Err(refusal) = judge(readings.len(), frames.len(), answers.len()) {
         return refusal.number();
     }
-    let mut i = 0;
-    while i < readings.len() {
-        let answer = take_in(node, readings[i], &frames[8 * i..8 * i + 8]);
+    for (i, t) in readings.iter().enumerate() {
+        let answer = take_in(node, *t, &frames[8 * i..8 * i + 8]);
         answers[i] = answer.number();
-        i += 1;
     }
     0
 }

@@ -10,6 +10,7 @@
 --   fresh_fits        a fresh node of such settings fits
 --   new_fits          so does what `new` gives, refused or not
 -- Assumes nothing.
+use Rattle.std.specs.Prelude.{Err, Ok, ⊤}
 use Prim.Native.Nat.{ℕ, zero, suc, ◌+◌, ◌*◌, ◌<◌}
 use mathlib.Core.Path.{◌≡◌, refl, sym, ap, subst, ◌∙◌}
 use mathlib.Core.List.{List, [], ◌∷◌, ◌++◌}
@@ -21,8 +22,6 @@ use Rattle.settings.specs.declared.domain_settings.DomainSettings.{DomainSetting
 use Rattle.settings.specs.declared.domain_settings.Role.{Role}
 use Rattle.settings.specs.declared.domain_settings.Role.TheVariants.{Absent, Slave, Master}
 use Rattle.settings.specs.declared.node_settings.NodeSettings.{NodeSettings}
-use Rattle.settings.specs.declared.node_settings.Verdict.{Verdict}
-use Rattle.settings.specs.declared.node_settings.Verdict.TheVariants.{Good, Refused}
 use Rattle.settings.specs.Domain.{absent_held, held_as, held_of}
 use Rattle.settings.specs.Node.{places, judged_of}
 use Rattle.domain.specs.declared.Domain.{Domain}
@@ -47,6 +46,7 @@ use Rattle.node_words.specs.Node.{
   NodeFits,
 }
 use Rattle.words_laws.proofs.Parts.{by_at}
+use Rattle.refusal.specs.Numbers.{Outcome}
 
 -- ---- the size
 
@@ -228,10 +228,10 @@ absent_fit : AllFit (replicate places absent_held)
 absent_fit i lt = subst SettingsFit (sym (get_or-replicate places i absent_held absent_held lt)) (settings_fit [])
 
 new_as_fits :
-    (v : Verdict) (s : NodeSettings) → s.syncs_per_cycle < 256 → length s.domains ≡ places →
+    (v : Outcome ⊤) (s : NodeSettings) → s.syncs_per_cycle < 256 → length s.domains ≡ places →
     AllFit s.domains → NodeFits (new_as v s).node
-new_as_fits Good s small sixteen fit = fresh_fits s.syncs_per_cycle s.domains small sixteen fit
-new_as_fits (Refused refusal) s small sixteen fit =
+new_as_fits (Ok tt) s small sixteen fit = fresh_fits s.syncs_per_cycle s.domains small sixteen fit
+new_as_fits (Err refusal) s small sixteen fit =
     fresh_fits 1 (replicate places absent_held) (omega arith) refl absent_fit
 
 pub new_fits :

@@ -6,6 +6,7 @@
 --   confirm_bytes_lem                                 the lent bytes are the node's
 --   read_answer                                   a read answers as the node; it leaves the words
 -- Assumes nothing.
+use Rattle.std.specs.Prelude.{⊤}
 use Prim.Native.Nat.{ℕ, ◌%◌, ◌<◌}
 use mathlib.Core.Path.{◌≡◌, sym, ap, ◌∙◌}
 use mathlib.Core.Bool.{false, ◌||◌}
@@ -19,19 +20,13 @@ use Rattle.promise.proofs.Tests.{neither}
 use Rattle.clock.specs.declared.reading.VirtualLocalTime.{VirtualLocalTime}
 use Rattle.frame_read.specs.Read.{named_domain}
 use Rattle.frame_laws.specs.RoundTrip.{AreBytes}
-use Rattle.refusal.specs.Numbers.{StateStays}
+use Rattle.refusal.specs.Numbers.{StateStays, Outcome, outcome_number}
 use Rattle.settings.specs.Node.{places}
 use Rattle.domain.specs.declared.Domain.{Domain}
 use Rattle.domain.specs.Records.{record_at}
-use Rattle.slave_answer.specs.Answer.{frame_number}
-use Rattle.master_set.specs.Set.{set_number}
-use Rattle.master_confirm.specs.Confirm.{confirm_number}
-use Rattle.call_frame.specs.declared.FrameCall.{FrameCall}
 use Rattle.call_frame.specs.FrameCall.{frame_call_of}
 use Rattle.call_read.specs.ReadCall.{read_call_of}
-use Rattle.call_set.specs.declared.SetCall.{SetCall}
 use Rattle.call_set.specs.SetCall.{set_call_of}
-use Rattle.call_confirm.specs.declared.ConfirmCall.{ConfirmCall}
 use Rattle.call_confirm.specs.ConfirmCall.{confirm_call_of, confirm_bytes}
 use Rattle.node.specs.Store.{stored_in}
 use Rattle.node.specs.Frame.{addressed_by, node_frame_of}
@@ -53,6 +48,9 @@ use Rattle.words_laws.proofs.Stored.{
   stored_node,
   stored_size,
 }
+use Rattle.domain.specs.declared.DomainCall.{DomainCall}
+use Rattle.frame.specs.declared.values.Fup.{Fup}
+use Rattle.slave_answer.specs.declared.Taken.{Taken}
 
 -- ---- a frame
 
@@ -69,7 +67,7 @@ module _ (words : List ℕ) (t : ℕ) (bytes : List ℕ) where
   abbrev place : ℕ
   place = addressed_by bytes
 
-  abbrev call : FrameCall
+  abbrev call : DomainCall (Outcome Taken)
   call = called_in words t bytes
 
   below : place < places
@@ -79,27 +77,27 @@ module _ (words : List ℕ) (t : ℕ) (bytes : List ℕ) where
   node_call = ap (λ (d : Domain). frame_call_of d (kept_of words) reading bytes) (looked_up words place below)
 
   pub frame_answer : call.answer ≡ (node_frame_of (node_of words) reading bytes).answer
-  frame_answer = sym (ap (λ (c : FrameCall). c.answer) node_call)
+  frame_answer = sym (ap (λ (c : DomainCall (Outcome Taken)). c.answer) node_call)
 
   pub frame_node :
       length words ≡ node_size → AreBytes bytes →
       node_of (frame_words words t bytes) ≡ (node_frame_of (node_of words) reading bytes).node
   frame_node size are =
       let d = record_of words place in
-      stored_node put_by_frame words size place below (is_stored (frame_number call.answer)) call.domain
+      stored_node put_by_frame words size place below (is_stored (outcome_number call.answer)) call.domain
       call.kept
       (frame_after d (kept_of words) reading bytes (state_fits words place) (given_fits words place) are)
       (λ told. refusal_keeps_frame_call d (kept_of words) reading bytes (not_stored _ told))
-      ∙ sym (ap (λ (c : FrameCall). stored_in (node_of words) place c.domain c.kept) node_call)
+      ∙ sym (ap (λ (c : DomainCall (Outcome Taken)). stored_in (node_of words) place c.domain c.kept) node_call)
 
   pub frame_size : length words ≡ node_size → length (frame_words words t bytes) ≡ node_size
   frame_size size =
-      stored_size put_by_frame words size place below (is_stored (frame_number call.answer)) call.domain
+      stored_size put_by_frame words size place below (is_stored (outcome_number call.answer)) call.domain
       call.kept
 
-  pub frame_refused : StateStays (frame_number call.answer) → frame_words words t bytes ≡ words
+  pub frame_refused : StateStays (outcome_number call.answer) → frame_words words t bytes ≡ words
   frame_refused stays =
-      let n = frame_number call.answer in
+      let n = outcome_number call.answer in
       rw (ne_eqb n 0 stays.0, ne_eqb n 6 stays.1, ne_eqb n 15 stays.2)
 
 -- ---- calls that name a domain
@@ -122,36 +120,36 @@ module _ (words : List ℕ) (domain t : ℕ) where
 
   -- ---- a set
   module _ (s ns : ℕ) where
-    abbrev set_call : SetCall
+    abbrev set_call : DomainCall (Outcome ⊤)
     set_call = set_by words domain t s ns
 
     node_set : set_call_of (record_at (node_of words).domains named) (kept_of words) domain at_time s ns ≡ set_call
     node_set = ap (λ (d : Domain). set_call_of d (kept_of words) domain at_time s ns) same_record
 
     pub set_answer : set_call.answer ≡ (node_set_of (node_of words) domain at_time s ns).answer
-    set_answer = sym (ap (λ (c : SetCall). c.answer) node_set)
+    set_answer = sym (ap (λ (c : DomainCall (Outcome ⊤)). c.answer) node_set)
 
     pub set_node :
         length words ≡ node_size →
         node_of (set_words words domain set_call) ≡ (node_set_of (node_of words) domain at_time s ns).node
     set_node size =
         let d = record_of words named in
-        stored_node put_by_set words size named named_below (eqb (set_number set_call.answer) 0) set_call.domain
+        stored_node put_by_set words size named named_below (eqb (outcome_number set_call.answer) 0) set_call.domain
         set_call.kept (set_after d (kept_of words) domain at_time s ns (state_fits words named))
         (λ told. refusal_keeps_set_call d (kept_of words) domain at_time s ns (eqb-false _ 0 told))
-        ∙ sym (ap (λ (c : SetCall). stored_in (node_of words) named c.domain c.kept) node_set)
+        ∙ sym (ap (λ (c : DomainCall (Outcome ⊤)). stored_in (node_of words) named c.domain c.kept) node_set)
 
     pub set_size : length words ≡ node_size → length (set_words words domain set_call) ≡ node_size
     set_size size =
-        stored_size put_by_set words size named named_below (eqb (set_number set_call.answer) 0)
+        stored_size put_by_set words size named named_below (eqb (outcome_number set_call.answer) 0)
         set_call.domain set_call.kept
 
-    pub set_refused : (set_number set_call.answer ≡ 0 → ⊥) → set_words words domain set_call ≡ words
-    set_refused n = rw (ne_eqb (set_number set_call.answer) 0 n)
+    pub set_refused : (outcome_number set_call.answer ≡ 0 → ⊥) → set_words words domain set_call ≡ words
+    set_refused n = rw (ne_eqb (outcome_number set_call.answer) 0 n)
 
   -- ---- a confirmation
   module _ (counter : ℕ) (out : List ℕ) where
-    abbrev confirm_call : ConfirmCall
+    abbrev confirm_call : DomainCall (Outcome Fup)
     confirm_call = confirm_by words domain t counter (length out)
 
     node_confirm :
@@ -161,7 +159,7 @@ module _ (words : List ℕ) (domain t : ℕ) where
 
     pub confirm_answer :
         confirm_call.answer ≡ (node_confirm_of (node_of words) domain at_time counter (length out)).answer
-    confirm_answer = sym (ap (λ (c : ConfirmCall). c.answer) node_confirm)
+    confirm_answer = sym (ap (λ (c : DomainCall (Outcome Fup)). c.answer) node_confirm)
 
     pub confirm_bytes_lem :
         confirm_bytes confirm_call.answer (record_of words named).settings.ids out
@@ -178,19 +176,19 @@ module _ (words : List ℕ) (domain t : ℕ) where
         ≡ (node_confirm_of (node_of words) domain at_time counter (length out)).node
     confirm_node size =
         let d = record_of words named in
-        stored_node put_sent words size named named_below (eqb (confirm_number confirm_call.answer) 0)
+        stored_node put_sent words size named named_below (eqb (outcome_number confirm_call.answer) 0)
         confirm_call.domain confirm_call.kept
         (confirm_after d (kept_of words) domain at_time counter (length out) (state_fits words named))
         (λ told.
         let k = refusal_keeps_confirm_call d (kept_of words) domain at_time counter out (eqb-false _ 0 told) in
         (k.0, k.1))
-        ∙ sym (ap (λ (c : ConfirmCall). stored_in (node_of words) named c.domain c.kept) node_confirm)
+        ∙ sym (ap (λ (c : DomainCall (Outcome Fup)). stored_in (node_of words) named c.domain c.kept) node_confirm)
 
     pub confirm_size : length words ≡ node_size → length (confirm_words words domain confirm_call) ≡ node_size
     confirm_size size =
-        stored_size put_sent words size named named_below (eqb (confirm_number confirm_call.answer) 0)
+        stored_size put_sent words size named named_below (eqb (outcome_number confirm_call.answer) 0)
         confirm_call.domain confirm_call.kept
 
     pub confirm_refused :
-        (confirm_number confirm_call.answer ≡ 0 → ⊥) → confirm_words words domain confirm_call ≡ words
-    confirm_refused n = rw (ne_eqb (confirm_number confirm_call.answer) 0 n)
+        (outcome_number confirm_call.answer ≡ 0 → ⊥) → confirm_words words domain confirm_call ≡ words
+    confirm_refused n = rw (ne_eqb (outcome_number confirm_call.answer) 0 n)

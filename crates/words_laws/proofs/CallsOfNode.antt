@@ -4,6 +4,7 @@
 --   frame_of_node, set_of_node, confirm_of_node   the words after are those of the node after
 --   frame_fits, set_fits, confirm_fits            and that node fits
 -- Assumes nothing.
+use Rattle.std.specs.Prelude.{⊤}
 use Prim.Native.Nat.{ℕ, ◌%◌, ◌<◌}
 use mathlib.Core.Path.{◌≡◌, sym, ap, subst, ◌∙◌}
 use mathlib.Core.Bool.{Bool, cond}
@@ -19,14 +20,8 @@ use Rattle.frame_laws.specs.RoundTrip.{AreBytes}
 use Rattle.settings.specs.Node.{places}
 use Rattle.domain.specs.declared.Domain.{Domain}
 use Rattle.domain.specs.Records.{record_at}
-use Rattle.slave_answer.specs.Answer.{frame_number}
-use Rattle.master_set.specs.Set.{set_number}
-use Rattle.master_confirm.specs.Confirm.{confirm_number}
-use Rattle.call_frame.specs.declared.FrameCall.{FrameCall}
 use Rattle.call_frame.specs.FrameCall.{frame_call_of}
-use Rattle.call_set.specs.declared.SetCall.{SetCall}
 use Rattle.call_set.specs.SetCall.{set_call_of}
-use Rattle.call_confirm.specs.declared.ConfirmCall.{ConfirmCall}
 use Rattle.call_confirm.specs.ConfirmCall.{confirm_call_of}
 use Rattle.node.specs.declared.Node.{Node}
 use Rattle.node.specs.Frame.{addressed_by, node_frame_of}
@@ -42,6 +37,10 @@ use Rattle.words_laws.proofs.OfNode.{frame_words_lem, base_words, sent_words}
 use Rattle.words_laws.proofs.Fits.{set_after, confirm_after}
 use Rattle.words_laws.proofs.FrameFits.{frame_after}
 use Rattle.words_laws.proofs.Calls.{frame_node, set_node, confirm_node}
+use Rattle.domain.specs.declared.DomainCall.{DomainCall}
+use Rattle.frame.specs.declared.values.Fup.{Fup}
+use Rattle.refusal.specs.Numbers.{Outcome, outcome_number}
+use Rattle.slave_answer.specs.declared.Taken.{Taken}
 
 module _ (n : Node) (f : NodeFits n) where
   size : length (node_words n) ≡ node_size
@@ -67,7 +66,7 @@ module _ (n : Node) (f : NodeFits n) where
     abbrev own : Domain
     own = record_at n.domains place
 
-    abbrev call : FrameCall
+    abbrev call : DomainCall (Outcome Taken)
     call = frame_call_of own n.kept reading bytes
 
     below : place < places
@@ -82,7 +81,7 @@ module _ (n : Node) (f : NodeFits n) where
     frame_of_node =
         let fits = f.records place below in
         let a = frame_after own n.kept reading bytes fits.state fits.settings are in
-        called_words (is_stored (frame_number call.answer))
+        called_words (is_stored (outcome_number call.answer))
         (ap (λ (d : Domain). stored_by (node_words n) place (frame_call_of d n.kept reading bytes))
         (record_back n f place below))
         (frame_words_lem (keeping n call.kept) f.sixteen place below call.domain a.settings a.number
@@ -108,7 +107,7 @@ module _ (n : Node) (f : NodeFits n) where
 
     -- ---- a set
     module _ (s ns : ℕ) where
-      abbrev set_call : SetCall
+      abbrev set_call : DomainCall (Outcome ⊤)
       set_call = set_call_of asked n.kept domain at_time s ns
 
       abbrev words_set : List ℕ
@@ -124,7 +123,7 @@ module _ (n : Node) (f : NodeFits n) where
           ≡ node_words (node_set_of n domain at_time s ns).node
       set_of_node =
           let a = set_after asked n.kept domain at_time s ns (f.records named named_below).state in
-          called_words (eqb (set_number set_call.answer) 0)
+          called_words (eqb (outcome_number set_call.answer) 0)
           (ap (λ (d : Domain). set_words (node_words n) domain (set_call_of d n.kept domain at_time s ns))
           (record_back n f named named_below))
           (base_words (keeping n set_call.kept) f.sixteen named named_below set_call.domain a.settings
@@ -138,7 +137,7 @@ module _ (n : Node) (f : NodeFits n) where
       abbrev room : ℕ
       room = length out
 
-      abbrev confirm_call : ConfirmCall
+      abbrev confirm_call : DomainCall (Outcome Fup)
       confirm_call = confirm_call_of asked n.kept domain at_time counter room
 
       abbrev words_confirmed : List ℕ
@@ -155,7 +154,7 @@ module _ (n : Node) (f : NodeFits n) where
       confirm_of_node =
           let a =
           confirm_after asked n.kept domain at_time counter room (f.records named named_below).state in
-          called_words (eqb (confirm_number confirm_call.answer) 0)
+          called_words (eqb (outcome_number confirm_call.answer) 0)
           (ap (λ (d : Domain). confirm_words (node_words n) domain
           (confirm_call_of d n.kept domain at_time counter room)) (record_back n f named named_below))
           (sent_words (keeping n confirm_call.kept) f.sixteen named named_below confirm_call.domain

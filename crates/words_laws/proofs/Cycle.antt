@@ -12,6 +12,7 @@
 --   cycle_refused    a refused cycle leaves every word
 --   cycle_number     its number is that of its answer
 -- Assumes nothing.
+use Rattle.std.specs.Prelude.{Err, None, Ok, Option, Some}
 use Prim.Native.Nat.{ℕ, zero, suc, ◌+◌, ◌*◌, ◌%◌, ◌<◌}
 use mathlib.Core.Path.{◌≡◌, refl, sym, ap, subst, ◌∙◌}
 use mathlib.Core.Bool.{Bool, true, false, cond}
@@ -25,24 +26,15 @@ use borrow.Author.Tests.{ne_eqb}
 use Rattle.promise.proofs.Tests.{either}
 use Rattle.clock.specs.declared.reading.VirtualLocalTime.{VirtualLocalTime}
 use Rattle.refusal.specs.declared.Refusal.TheVariants.{Reading, NoRoom}
-use Rattle.refusal.specs.Numbers.{number_of}
+use Rattle.refusal.specs.Numbers.{number_of, Outcome, outcome_number}
 use Rattle.admission.specs.Reading.{is_good_reading}
 use Rattle.settings.specs.Node.{places}
 use Rattle.domain.specs.declared.Domain.{Domain}
 use Rattle.domain.specs.Records.{record_at}
-use Rattle.master_rules.specs.declared.due.Due.{Due}
-use Rattle.master_rules.specs.declared.due.Due.TheVariants.{At, No}
-use Rattle.master_send.specs.declared.SendAnswer.{SendAnswer}
-use Rattle.master_send.specs.declared.SendAnswer.TheVariants.{Sent, NotDue}
-use Rattle.master_send.specs.declared.SendStep.{SendStep}
 use Rattle.master_send.specs.Send.{due_in, send_as}
 use Rattle.round.specs.Turn.{turn_of, next_place, next_after}
 use Rattle.round.specs.Round.{frames_by, sent_after, Gone, before, goes, pasted}
 use Rattle.node.specs.declared.Node.{Node}
-use Rattle.node.specs.declared.cycles.CycleAnswer.{CycleAnswer}
-use Rattle.node.specs.declared.cycles.CycleAnswer.TheVariants.{Sent as has_sent_one, Refused}
-use Rattle.node.specs.declared.cycles.NodeCycle.{NodeCycle}
-use Rattle.node.specs.CycleAnswer.{cycle_number}
 use Rattle.node.specs.Store.{stored_in}
 use Rattle.node.specs.Cycle.{gone_from, cycled_by, cycle_refused, node_cycle_of, cycle_bytes}
 use Rattle.node_laws.proofs.Laws.{stored_same}
@@ -65,6 +57,10 @@ use Rattle.words_laws.specs.Run.{cycle_answer, cycle_words, cycle_out}
 use Rattle.words_laws.proofs.Puts.{head_put, kept_put}
 use Rattle.words_laws.proofs.Fits.{After, state_fits, send_after}
 use Rattle.words_laws.proofs.Stored.{looked_up, put_sent}
+use Rattle.domain.specs.declared.DomainStep.{DomainStep}
+use Rattle.frame.specs.declared.values.Sync.{Sync}
+use Rattle.master_rules.specs.declared.due.Due.{Due}
+use Rattle.node.specs.declared.NodeStep.{NodeStep}
 
 -- ---- turns, for all that a turn keeps between words and a node
 
@@ -122,20 +118,20 @@ module _ (words : List ℕ) (size : length words ≡ node_size) (at : ℕ) (lt :
   abbrev here : Domain
   here = record_of words at
 
-  abbrev Stored : SendStep → Type 0
+  abbrev Stored : DomainStep (Option Sync) → Type 0
   Stored s = node_of (turn_words s words at) ≡ stored_in (node_of words) at s.domain (kept_of words)
 
-  rests : Stored (record { answer = NotDue; domain = here })
+  rests : Stored (record { answer = None; domain = here })
   rests = sym (stored_same (node_of words) at (sym (looked_up words at lt), refl))
 
-  sends : (due : Due) → After BesideSent here (send_as due here t).domain → Stored (send_as due here t)
-  sends No after = rests
-  sends (At seconds nanoseconds) after = put_sent.says words size at lt _ after
+  sends : (due : Option Due) → After BesideSent here (send_as due here t).domain → Stored (send_as due here t)
+  sends None after = rests
+  sends (Some due) after = put_sent.says words size at lt _ after
 
   turn_node : (may : Bool) → Stored (turn_of may here t)
   turn_node may = either Stored may (sends (due_in here t) (send_after here t (state_fits words at))) rests
 
-  turn_size : (s : SendStep) → length (turn_words s words at) ≡ node_size
+  turn_size : (s : DomainStep (Option Sync)) → length (turn_words s words at) ≡ node_size
   turn_size s =
       either (λ (l : List ℕ). length l ≡ node_size) (has_sent s.answer) (put_sent.long words size at lt s.domain)
       size
@@ -172,9 +168,9 @@ went_says words size turns at lt sent most t next =
 
 -- ---- where the next round starts
 
-after_small : (a : SendAnswer) (at next : ℕ) → next < 256 → next_after a at next < 256
-after_small (Sent sync) at next h = omega arith
-after_small NotDue at next h = h
+after_small : (a : Option Sync) (at next : ℕ) → next < 256 → next_after a at next < 256
+after_small (Some sync) at next h = omega arith
+after_small None at next h = h
 
 pub next_small :
     (turns at sent most : ℕ) (t : VirtualLocalTime) (words : List ℕ) (next : ℕ) → next < 256 →
@@ -221,7 +217,7 @@ with_kept n t =
 abbrev pub number_by : (good fits : Bool) → ℕ
 number_by good fits = cond good (cond fits 0 (number_of NoRoom)) (number_of Reading)
 
-abbrev pub cycle_by : Node → VirtualLocalTime → (good fits : Bool) → NodeCycle
+abbrev pub cycle_by : Node → VirtualLocalTime → (good fits : Bool) → NodeStep (Outcome ℕ)
 cycle_by n t good fits =
     cond good (cond fits (cycled_by n t (gone_from n t)) (cycle_refused n NoRoom)) (cycle_refused n Reading)
 
@@ -232,11 +228,11 @@ module _ (words : List ℕ) (t : ℕ) where
   abbrev n : Node
   n = node_of words
 
-  abbrev answer_by : (good fits : Bool) → CycleAnswer
+  abbrev answer_by : (good fits : Bool) → Outcome ℕ
   answer_by good fits =
-      cond good (cond fits (has_sent_one (length (went_from words t).frames)) (Refused NoRoom)) (Refused Reading)
+      cond good (cond fits (Ok (length (went_from words t).frames)) (Err NoRoom)) (Err Reading)
 
-  number_by_lem : (good fits : Bool) → number_by good fits ≡ cycle_number (answer_by good fits)
+  number_by_lem : (good fits : Bool) → number_by good fits ≡ outcome_number (answer_by good fits)
   number_by_lem true true = refl
   number_by_lem true false = refl
   number_by_lem false fits = refl
@@ -263,7 +259,7 @@ module _ (words : List ℕ) (t : ℕ) where
         length-set (set w 0 t) 1 _ ∙ length-set w 0 t ∙ gone.after.size
 
     answer_by_lem : (good fits : Bool) → answer_by good fits ≡ (cycle_by n reading good fits).answer
-    answer_by_lem true true = ap (λ (frames : List (List ℕ)). has_sent_one (length frames)) gone.frames
+    answer_by_lem true true = ap (λ (frames : List (List ℕ)). Ok (length frames)) gone.frames
     answer_by_lem true false = refl
     answer_by_lem false fits = refl
 
@@ -313,5 +309,5 @@ module _ (words : List ℕ) (t : ℕ) where
   cycle_refused_lem room refused =
       ap (λ (b : Bool). cond b (cycled_words words t) words) (ne_eqb (cycle_number_in words t room) 0 refused)
 
-  pub cycle_number_lem : (room : ℕ) → cycle_number_in words t room ≡ cycle_number (cycle_answer words t room)
+  pub cycle_number_lem : (room : ℕ) → cycle_number_in words t room ≡ outcome_number (cycle_answer words t room)
   cycle_number_lem room = number_by_lem is_good (is_room room)

@@ -4,6 +4,7 @@
 --   AreWords, are_words   that words are those of a node that fits, which a turn keeps
 --   cycle_of_node         so the words after a main cycle are those of the node after
 -- Assumes nothing.
+use Rattle.std.specs.Prelude.{None, Option, Some}
 use Prim.Native.Nat.{ℕ, ◌*◌, ◌%◌, ◌<◌}
 use mathlib.Core.Path.{◌≡◌, refl, sym, ap, subst, ◌∙◌}
 use mathlib.Core.Bool.{Bool, true, false, cond}
@@ -20,10 +21,6 @@ use Rattle.admission.specs.Reading.{is_good_reading}
 use Rattle.settings.specs.Node.{places}
 use Rattle.domain.specs.declared.Domain.{Domain}
 use Rattle.domain.specs.Records.{record_at}
-use Rattle.master_rules.specs.declared.due.Due.{Due}
-use Rattle.master_rules.specs.declared.due.Due.TheVariants.{At, No}
-use Rattle.master_send.specs.declared.SendAnswer.TheVariants.{NotDue}
-use Rattle.master_send.specs.declared.SendStep.{SendStep}
 use Rattle.master_send.specs.Send.{due_in, send_as}
 use Rattle.round.specs.Turn.{turn_of}
 use Rattle.node.specs.declared.Node.{Node}
@@ -40,6 +37,9 @@ use Rattle.words_laws.proofs.Back.{record_back, syncs_back, round_back}
 use Rattle.words_laws.proofs.OfNode.{sent_words}
 use Rattle.words_laws.proofs.Fits.{After, send_after}
 use Rattle.words_laws.proofs.Cycle.{Holds, Alike, went_alike, number_by, cycle_by}
+use Rattle.domain.specs.declared.DomainStep.{DomainStep}
+use Rattle.frame.specs.declared.values.Sync.{Sync}
+use Rattle.master_rules.specs.declared.due.Due.{Due}
 
 -- ---- what fits still fits
 
@@ -69,7 +69,7 @@ pub turn_fits :
     (may : Bool) (d : Domain) (t : VirtualLocalTime) → RecordFits d → RecordFits (turn_of may d t).domain
 turn_fits may d t f =
     let a = send_after d t f.state in
-    either (λ (s : SendStep). RecordFits s.domain) may
+    either (λ (s : DomainStep (Option Sync)). RecordFits s.domain) may
     (record {
       state = a.fits;
       settings = subst SettingsFit (sym a.settings) f.settings;
@@ -83,15 +83,15 @@ module _ (n : Node) (f : NodeFits n) (at : ℕ) (lt : at < places) (t : VirtualL
   abbrev here : Domain
   here = record_at n.domains at
 
-  abbrev Stored : SendStep → Type 0
+  abbrev Stored : DomainStep (Option Sync) → Type 0
   Stored s = turn_words s (node_words n) at ≡ node_words (stored_in n at s.domain n.kept)
 
-  rests : Stored (record { answer = NotDue; domain = here })
+  rests : Stored (record { answer = None; domain = here })
   rests = sym (ap node_words (stored_same n at (refl, refl)))
 
-  sends : (due : Due) → After BesideSent here (send_as due here t).domain → Stored (send_as due here t)
-  sends No a = rests
-  sends (At seconds nanoseconds) a =
+  sends : (due : Option Due) → After BesideSent here (send_as due here t).domain → Stored (send_as due here t)
+  sends None a = rests
+  sends (Some due) a =
       sent_words n f.sixteen at lt _ a.settings a.number a.beside
 
   turn_words_lem : (may : Bool) → Stored (turn_of may here t)

@@ -5,6 +5,7 @@
 --   confirm_after            a confirmation: the SYNC sent last
 --   send_after               a main cycle's turn: that SYNC, and the next counter
 -- Assumes nothing.
+use Rattle.std.specs.Prelude.{Err, Ok, Option, ⊤}
 use Prim.Native.Nat.{ℕ, ◌<◌}
 use mathlib.Core.Path.{◌≡◌, refl}
 use mathlib.Core.List.{List}
@@ -18,16 +19,10 @@ use Rattle.domain.specs.declared.Domain.{Domain}
 use Rattle.domain.specs.declared.Sending.{Sending}
 use Rattle.domain.specs.declared.Sending.TheVariants.{Open, Confirmed}
 use Rattle.domain.specs.Fields.{with_sending, with_next}
-use Rattle.master_rules.specs.declared.due.Due.{Due}
 use Rattle.master_rules.proofs.Laws.{by_due}
-use Rattle.master_follow.specs.declared.Follow.{Follow}
-use Rattle.master_follow.specs.declared.Follow.TheVariants.{With, Refused as not_followed}
 use Rattle.master_follow.specs.Follow.{follow_of}
-use Rattle.master_set.specs.declared.SetStep.{SetStep}
 use Rattle.master_confirm.specs.Confirm.{confirm_as}
 use Rattle.master_send.specs.Send.{send_as, send_of}
-use Rattle.admission.specs.declared.Admission.{Admission}
-use Rattle.admission.specs.declared.Admission.TheVariants.{Admitted as admitted, Refused as refused}
 use Rattle.admission.specs.declared.Needed.TheVariants.{Master}
 use Rattle.admission.specs.Admission.{admitted_of}
 use Rattle.call_set.specs.SetCall.{set_call_as, set_call_of}
@@ -35,6 +30,10 @@ use Rattle.call_confirm.specs.ConfirmCall.{confirm_call_as, confirm_call_of}
 use Rattle.record_words.specs.Fits.{SendingFits, SettingsFit, StateFits}
 use Rattle.record_words.proofs.Back.{BesideBase, BesideSent, words_fit, settings_fit}
 use Rattle.node_words.specs.Words.{settings_at, state_at, part_of, record_of}
+use Rattle.domain.specs.declared.DomainStep.{DomainStep}
+use Rattle.master_follow.specs.declared.Follow.{Follow}
+use Rattle.master_rules.specs.declared.due.Due.{Due}
+use Rattle.refusal.specs.Numbers.{Outcome}
 
 -- ---- any words say a record that fits
 
@@ -69,10 +68,10 @@ module _ (d : Domain) (g : StateFits d) where
       }
 
   set_call_after :
-      (a : Admission) (kept t : VirtualLocalTime) (s n : ℕ) → After BesideBase d (set_call_as a d kept t s n).domain
-  set_call_after (refused refusal) kept t s n = base_stays
-  set_call_after admitted kept t s n =
-      either_told (λ (r : SetStep). After BesideBase d r.domain) (is_nanoseconds n)
+      (a : Outcome ⊤) (kept t : VirtualLocalTime) (s n : ℕ) → After BesideBase d (set_call_as a d kept t s n).domain
+  set_call_after (Err refusal) kept t s n = base_stays
+  set_call_after (Ok tt) kept t s n =
+      either_told (λ (r : DomainStep (Outcome ⊤)). After BesideBase d r.domain) (is_nanoseconds n)
       (λ e.
       record {
         settings = refl;
@@ -134,15 +133,15 @@ module _ (d : Domain) (g : StateFits d) where
   sent_stays : After BesideSent d d
   sent_stays = with_sent d.sending d.next_counter g.sending g.next
 
-  follow_after : (f : Follow) (counter : ℕ) → After BesideSent d (confirm_as f d counter).domain
-  follow_after (not_followed refusal) counter = sent_stays
-  follow_after (With ovs nanoseconds at) counter = with_sent (Confirmed at) d.next_counter tt g.next
+  follow_after : (f : Outcome Follow) (counter : ℕ) → After BesideSent d (confirm_as f d counter).domain
+  follow_after (Err refusal) counter = sent_stays
+  follow_after (Ok follow) counter = with_sent (Confirmed follow.sent_at) d.next_counter tt g.next
 
   confirm_call_after :
-      (a : Admission) (kept t : VirtualLocalTime) (counter room : ℕ) →
+      (a : Outcome ⊤) (kept t : VirtualLocalTime) (counter room : ℕ) →
       After BesideSent d (confirm_call_as a d kept t counter room).domain
-  confirm_call_after (refused refusal) kept t counter room = sent_stays
-  confirm_call_after admitted kept t counter room =
+  confirm_call_after (Err refusal) kept t counter room = sent_stays
+  confirm_call_after (Ok tt) kept t counter room =
       follow_after (follow_of d.settings.confirmation_time d.sending t counter (leb 8 room)) counter
 
 pub confirm_after :
@@ -153,7 +152,7 @@ confirm_after d kept asked t counter room g =
 
 pub send_after : (d : Domain) (t : VirtualLocalTime) → StateFits d → After BesideSent d (send_of d t).domain
 send_after d t g =
-    by_due (λ (due : Due). After BesideSent d (send_as due d t).domain) d.settings.role d.settings.period
+    by_due (λ (due : Option Due). After BesideSent d (send_as due d t).domain) d.settings.role d.settings.period
     d.base d.sending t (sent_stays d g)
     (λ b told.
     with_sent d g (Open _ _ _ t) _ (omega arith, omega arith, omega arith) (omega arith))

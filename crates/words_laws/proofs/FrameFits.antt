@@ -2,6 +2,7 @@
 -- row is at most H, or as it was, and a run is below the count that clears its leap. No contract cites this file.
 --   frame_after   that
 -- Assumes nothing.
+use Rattle.std.specs.Prelude.{Err, None, Ok, Option, Result, Some}
 use Prim.Native.Nat.{ℕ, ◌+◌, ◌<◌}
 use mathlib.Core.Path.{refl, subst}
 use mathlib.Core.List.{List}
@@ -13,60 +14,50 @@ use borrow.Author.Tests.{ltb-true}
 use Rattle.promise.proofs.Tests.{either, either_told}
 use Rattle.clock.specs.declared.reading.VirtualLocalTime.{VirtualLocalTime}
 use Rattle.clock.specs.declared.base.TimeBase.{TimeBase}
-use Rattle.clock.specs.declared.base.Held.{Held}
-use Rattle.clock.specs.declared.base.Held.TheVariants.{Unset, Set}
-use Rattle.frame.specs.declared.types.FrameType.{FrameType}
-use Rattle.frame.specs.declared.types.FrameType.TheVariants.{
-  PlainSync,
-  SecuredSync,
-  PlainFup,
-  SecuredFup,
-  Unknown as no_type,
-}
 use Rattle.frame.specs.Types.{type_of}
 use Rattle.frame.specs.declared.values.Frame.{Frame}
 use Rattle.frame.specs.declared.values.Frame.TheVariants.{Sync as sync, Fup as fup}
 use Rattle.frame.specs.declared.values.Sync.{Sync}
 use Rattle.frame.specs.declared.values.Fup.{Fup}
 use Rattle.frame.specs.Values.{domain_in}
-use Rattle.frame_read.specs.declared.Read.{Read}
-use Rattle.frame_read.specs.declared.Read.TheVariants.{Values, LengthNot8, NoSuchType}
 use Rattle.frame_read.specs.Read.{values_of, read_of}
 use Rattle.frame_check.specs.Check.{is_taken}
 use Rattle.frame_laws.specs.RoundTrip.{AreBytes}
 use Rattle.frame_laws.proofs.Laws.{byte_below}
 use Rattle.settings.specs.declared.domain_settings.Role.{Role}
 use Rattle.domain.specs.declared.Domain.{Domain}
-use Rattle.domain.specs.declared.Pairing.{Pairing}
-use Rattle.domain.specs.declared.Pairing.TheVariants.{Open}
 use Rattle.domain.specs.declared.LastSync.{LastSync}
 use Rattle.domain.specs.declared.LastSync.TheVariants.{Unknown, Seen}
-use Rattle.domain.specs.declared.Leap.{Leap}
-use Rattle.domain.specs.declared.Leap.TheVariants.{None, Future, Past}
 use Rattle.domain.specs.Fields.{with_pairing, with_last}
 use Rattle.slave_counter.specs.declared.CounterVerdict.{CounterVerdict}
 use Rattle.slave_counter.specs.declared.RowCheck.{RowCheck}
 use Rattle.slave_counter.specs.declared.RowCheck.TheVariants.{NotGood, Joins, Complete}
 use Rattle.slave_counter.specs.Row.{row_of, with_row, checked_of}
 use Rattle.slave_counter.proofs.Laws.{Checked, not_joined, begins, alone, joins, completes, checked}
-use Rattle.slave_pair.specs.declared.joining.Joined.{Joined}
 use Rattle.slave_pair.specs.Pair.{user_in}
 use Rattle.slave_pair.proofs.Laws.{by_joined}
-use Rattle.slave_answer.specs.declared.FrameStep.{FrameStep}
 use Rattle.slave_update.specs.Leap.{is_future, is_past, calmer, leap_after}
 use Rattle.slave_update.specs.Update.{new_base, moved_by, update_of}
 use Rattle.slave_sync.specs.Sync.{verdict_for, sync_as}
 use Rattle.slave_fup.specs.Fup.{fup_as, fup_of}
 use Rattle.slave_frame.specs.Step.{kind_of}
 use Rattle.admission.specs.declared.Needed.TheVariants.{Slave}
-use Rattle.admission.specs.declared.frames.FrameAdmission.{FrameAdmission}
-use Rattle.admission.specs.declared.frames.FrameAdmission.TheVariants.{Admitted, Refused}
 use Rattle.admission.specs.Admission.{is_for}
 use Rattle.admission.specs.FrameAdmission.{read_for, frame_admitted}
 use Rattle.admission.specs.Reading.{is_good_reading}
 use Rattle.call_frame.specs.FrameCall.{frame_call_as, frame_call_of}
 use Rattle.record_words.specs.Fits.{PairingFits, LastFits, LeapFits, SettingsFit, StateFits}
 use Rattle.words_laws.proofs.Fits.{BesideFrame, After}
+use Rattle.domain.specs.declared.DomainStep.{DomainStep}
+use Rattle.domain.specs.declared.Leap.{Leap}
+use Rattle.domain.specs.declared.Leap.TheVariants.{Future, Past}
+use Rattle.domain.specs.declared.Pair.{Pair}
+use Rattle.frame.specs.declared.types.FrameType.{FrameType}
+use Rattle.frame.specs.declared.types.FrameType.TheVariants.{PlainFup, PlainSync, SecuredFup, SecuredSync}
+use Rattle.frame_read.specs.declared.NoFrame.{NoFrame}
+use Rattle.frame_read.specs.declared.NoFrame.TheVariants.{LengthNot8, NoSuchType}
+use Rattle.refusal.specs.Numbers.{Outcome}
+use Rattle.slave_answer.specs.declared.Taken.{Taken}
 
 -- ---- the values of a frame
 
@@ -75,30 +66,30 @@ ValuesFit (sync s) =
     (s.seconds < 4294967296) × (s.counter < 256) × (s.user0 < 256) × (user_in s.protection < 256)
 ValuesFit (fup f) = user_in f.protection < 256
 
-abbrev ReadFits : Read → Type 0
-ReadFits LengthNot8 = Unit {0}
-ReadFits NoSuchType = Unit {0}
-ReadFits (Values values) = ValuesFit values
+abbrev ReadFits : Result Frame NoFrame → Type 0
+ReadFits (Err LengthNot8) = Unit {0}
+ReadFits (Err NoSuchType) = Unit {0}
+ReadFits (Ok values) = ValuesFit values
 
-values_fit : (k : FrameType) (bytes : List ℕ) → ((i : ℕ) → get_or bytes i 0 < 256) → ReadFits (values_of k bytes)
-values_fit PlainSync bytes h = (omega (arith, h 4, h 5, h 6, h 7), omega arith, h 3, h 1)
-values_fit SecuredSync bytes h = (omega (arith, h 4, h 5, h 6, h 7), omega arith, h 3, omega arith)
-values_fit PlainFup bytes h = h 1
-values_fit SecuredFup bytes h = omega arith
-values_fit no_type bytes h = tt
+values_fit : (k : Option FrameType) (bytes : List ℕ) → ((i : ℕ) → get_or bytes i 0 < 256) → ReadFits (values_of k bytes)
+values_fit (Some PlainSync) bytes h = (omega (arith, h 4, h 5, h 6, h 7), omega arith, h 3, h 1)
+values_fit (Some SecuredSync) bytes h = (omega (arith, h 4, h 5, h 6, h 7), omega arith, h 3, omega arith)
+values_fit (Some PlainFup) bytes h = h 1
+values_fit (Some SecuredFup) bytes h = omega arith
+values_fit None bytes h = tt
 
 read_fits : (bytes : List ℕ) → AreBytes bytes → ReadFits (read_of bytes)
 read_fits bytes are =
     either ReadFits (eqb (length bytes) 8) (values_fit (type_of (get_or bytes 0 0)) bytes (λ i. byte_below bytes i are)) tt
 
-abbrev AdmittedFits : FrameAdmission → Type 0
-AdmittedFits (Refused refusal) = Unit {0}
-AdmittedFits (Admitted values) = ValuesFit values
+abbrev AdmittedFits : Outcome Frame → Type 0
+AdmittedFits (Err refusal) = Unit {0}
+AdmittedFits (Ok values) = ValuesFit values
 
-read_for_fits : (r : Read) (own : ℕ) (role : Role) → ReadFits r → AdmittedFits (read_for r own role)
-read_for_fits LengthNot8 own role h = tt
-read_for_fits NoSuchType own role h = tt
-read_for_fits (Values values) own role h = either AdmittedFits (is_for own role (domain_in values) Slave) h tt
+read_for_fits : (r : Result Frame NoFrame) (own : ℕ) (role : Role) → ReadFits r → AdmittedFits (read_for r own role)
+read_for_fits (Err LengthNot8) own role h = tt
+read_for_fits (Err NoSuchType) own role h = tt
+read_for_fits (Ok values) own role h = either AdmittedFits (is_for own role (domain_in values) Slave) h tt
 
 admitted_fits :
     (kept t : VirtualLocalTime) (own : ℕ) (role : Role) (bytes : List ℕ) → AreBytes bytes →
@@ -131,33 +122,33 @@ with_row_fits (Seen counter old at) row f h = (f.0, h)
 
 -- ---- the run of a leap, below its count
 
-calmer_fits : (count : ℕ) (held : Leap) → count < 256 → LeapFits (calmer count held)
+calmer_fits : (count : ℕ) (held : Option Leap) → count < 256 → LeapFits (calmer count held)
 calmer_fits count None h = tt
-calmer_fits count (Future run) h =
+calmer_fits count (Some (Future run)) h =
     either_told LeapFits (ltb (run + 1) count) (λ e. omega (arith, ltb-true (run + 1) count e)) (λ e. tt)
-calmer_fits count (Past run) h =
+calmer_fits count (Some (Past run)) h =
     either_told LeapFits (ltb (run + 1) count) (λ e. omega (arith, ltb-true (run + 1) count e)) (λ e. tt)
 
 leap_fits :
-    (future past count : ℕ) (held : Leap) (d : ℤ) → count < 256 → LeapFits (leap_after future past count held d)
+    (future past count : ℕ) (held : Option Leap) (d : ℤ) → count < 256 → LeapFits (leap_after future past count held d)
 leap_fits future past count held d h =
     let zero-run : 0 < 256 = omega arith in
     either LeapFits (is_future future d) zero-run (either LeapFits (is_past past d) zero-run (calmer_fits count held h))
 
 update_fits :
-    (future past count : ℕ) (held : Leap) (old : Held) (new : TimeBase) → count < 256 →
+    (future past count : ℕ) (held : Option Leap) (old : Option TimeBase) (new : TimeBase) → count < 256 →
     LeapFits (update_of future past count held old new).leap
-update_fits future past count held Unset new h = tt
-update_fits future past count held (Set old) new h = leap_fits future past count held (moved_by old new) h
+update_fits future past count held None new h = tt
+update_fits future past count held (Some old) new h = leap_fits future past count held (moved_by old new) h
 
 -- ---- a frame
 
 module _ (d : Domain) (g : StateFits d) (given : SettingsFit d.settings) where
-  abbrev Steps : FrameStep → Type 0
+  abbrev Steps : DomainStep (Outcome Taken) → Type 0
   Steps s = After BesideFrame d s.domain
 
   with_sync_lem :
-      (pairing : Pairing) (last : LastSync) → PairingFits pairing → LastFits last →
+      (pairing : Option Pair) (last : LastSync) → PairingFits pairing → LastFits last →
       After BesideFrame d (with_last (with_pairing d pairing) last)
   with_sync_lem pairing last p l =
       record {
@@ -185,13 +176,13 @@ module _ (d : Domain) (g : StateFits d) (given : SettingsFit d.settings) where
   sync_after_lem (NotGood row) h t s v =
       with_sync_lem d.pairing (with_row d.last row) g.pairing (with_row_fits d.last row g.last h)
   sync_after_lem (Joins row) h t s v = with_sync_lem d.pairing (Seen s.counter row t) g.pairing (v.1, h)
-  sync_after_lem (Complete row) h t s v = with_sync_lem (Open _) (Seen s.counter row t) v (v.1, h)
+  sync_after_lem (Complete row) h t s v = with_sync_lem (Some _) (Seen s.counter row t) v (v.1, h)
 
   fup_after : (t : VirtualLocalTime) (f : Fup) → ValuesFit (fup f) → Steps (fup_of d t f)
   fup_after t f v =
-      by_joined (λ (j : Joined). Steps (fup_as j d f)) d.settings.follow_up_time d.pairing t f stays stays stays
+      by_joined (λ (j : Outcome Pair). Steps (fup_as j d f)) d.settings.follow_up_time d.pairing t f stays stays stays
       (λ p told.
-      let open-fits : PairingFits (Open p) = subst PairingFits told.held g.pairing in
+      let open-fits : PairingFits (Some p) = subst PairingFits told.held g.pairing in
       record {
         settings = refl;
         number = refl;
@@ -220,10 +211,10 @@ module _ (d : Domain) (g : StateFits d) (given : SettingsFit d.settings) where
   kind_after t (fup f) v = fup_after t f v
 
   call_after :
-      (a : FrameAdmission) (kept t : VirtualLocalTime) (bytes : List ℕ) → AdmittedFits a →
+      (a : Outcome Frame) (kept t : VirtualLocalTime) (bytes : List ℕ) → AdmittedFits a →
       After BesideFrame d (frame_call_as a d kept t bytes).domain
-  call_after (Refused refusal) kept t bytes h = stays
-  call_after (Admitted values) kept t bytes h =
+  call_after (Err refusal) kept t bytes h = stays
+  call_after (Ok values) kept t bytes h =
       either Steps (is_taken d.settings.mode d.settings.ids bytes) (kind_after t values h) stays
 
 pub frame_after :

@@ -4,18 +4,15 @@
 --   queue_numbers   the lent bytes are the node's
 --   queue_of_node   on the words of a node that fits, the words after are those of the node after
 -- Assumes nothing.
+use Rattle.std.specs.Prelude.{Err, Ok, ⊤}
 use Prim.Native.Nat.{ℕ}
 use mathlib.Core.Path.{◌≡◌, refl, ap, ◌∙◌}
 use mathlib.Core.List.{List, [], ◌∷◌, ◌++◌}
 use lib.ListN.{length, take, drop}
 use Rattle.frame_laws.specs.RoundTrip.{AreBytes}
-use Rattle.slave_answer.specs.declared.FrameAnswer.{FrameAnswer}
-use Rattle.slave_answer.specs.Answer.{frame_number}
 use Rattle.node.specs.declared.Node.{Node}
 use Rattle.node.specs.Frame.{node_frame_of}
 use Rattle.node_call.specs.Calls.{node_after_all}
-use Rattle.node_queue.specs.declared.QueueAnswer.{QueueAnswer}
-use Rattle.node_queue.specs.declared.QueueAnswer.TheVariants.{Taken, Refused}
 use Rattle.node_queue.specs.Queue.{queue_calls, queue_numbers as nodeNumbers, queue_node, queue_bytes}
 use Rattle.node_laws.specs.Reachable.{AreCalls}
 use Rattle.node_laws.proofs.Queue.{queue_calls_lem}
@@ -25,6 +22,8 @@ use Rattle.words_frame.specs.Frame.{frame_words}
 use Rattle.words_frame.specs.Queue.{frames_words, frames_numbers, queue_words, queue_numbers}
 use Rattle.words_laws.proofs.Calls.{frame_answer, frame_node, frame_size}
 use Rattle.words_laws.proofs.CallsOfNode.{frame_of_node, frame_fits}
+use Rattle.refusal.specs.Numbers.{Outcome, outcome_number}
+use Rattle.slave_answer.specs.declared.Taken.{Taken}
 
 -- ---- frame by frame
 
@@ -50,8 +49,8 @@ frames_numbers_lem words size [] fs are = refl
 frames_numbers_lem words size (t ∷ ts) fs are =
     let bytes = take 8 fs in
     let after = frame_words words t bytes in
-    ap (λ (a : FrameAnswer). frame_number a ∷ frames_numbers after ts (drop 8 fs)) (frame_answer words t bytes)
-    ∙ ap (λ (l : List ℕ). frame_number (node_frame_of (node_of words) (record { 0 = t }) bytes).answer ∷ l)
+    ap (λ (a : Outcome Taken). outcome_number a ∷ frames_numbers after ts (drop 8 fs)) (frame_answer words t bytes)
+    ∙ ap (λ (l : List ℕ). outcome_number (node_frame_of (node_of words) (record { 0 = t }) bytes).answer ∷ l)
     (frames_numbers_lem after (frame_size words t bytes size) ts (drop 8 fs) are.1
     ∙ ap (λ (n : Node). nodeNumbers n ts (drop 8 fs)) (frame_node words t bytes size are.0))
 
@@ -68,25 +67,25 @@ frames_of_node n f (t ∷ ts) fs are =
 -- ---- a queue, taken or refused
 
 module _ (words : List ℕ) (size : length words ≡ node_size) (ts fs : List ℕ) where
-  pub queue_size : (answer : QueueAnswer) → length (queue_words answer words ts fs) ≡ node_size
-  queue_size Taken = frames_size words size ts fs
-  queue_size (Refused refusal) = size
+  pub queue_size : (answer : Outcome ⊤) → length (queue_words answer words ts fs) ≡ node_size
+  queue_size (Ok tt) = frames_size words size ts fs
+  queue_size (Err refusal) = size
 
   pub queue_node_lem :
-      AreBytes fs → (answer : QueueAnswer) →
+      AreBytes fs → (answer : Outcome ⊤) →
       node_of (queue_words answer words ts fs) ≡ queue_node answer (node_of words) ts fs
-  queue_node_lem are Taken = frames_node words size ts fs (queue_calls_lem ts fs are)
-  queue_node_lem are (Refused refusal) = refl
+  queue_node_lem are (Ok tt) = frames_node words size ts fs (queue_calls_lem ts fs are)
+  queue_node_lem are (Err refusal) = refl
 
   pub queue_numbers_lem :
-      AreBytes fs → (answer : QueueAnswer) (before : List ℕ) →
+      AreBytes fs → (answer : Outcome ⊤) (before : List ℕ) →
       queue_numbers answer words ts fs before ≡ queue_bytes answer (node_of words) ts fs before
-  queue_numbers_lem are Taken before =
+  queue_numbers_lem are (Ok tt) before =
       ap (λ (l : List ℕ). l ++ drop (length ts) before) (frames_numbers_lem words size ts fs (queue_calls_lem ts fs are))
-  queue_numbers_lem are (Refused refusal) before = refl
+  queue_numbers_lem are (Err refusal) before = refl
 
 pub queue_of_node :
-    (n : Node) → NodeFits n → (ts fs : List ℕ) → AreBytes fs → (answer : QueueAnswer) →
+    (n : Node) → NodeFits n → (ts fs : List ℕ) → AreBytes fs → (answer : Outcome ⊤) →
     queue_words answer (node_words n) ts fs ≡ node_words (queue_node answer n ts fs)
-queue_of_node n f ts fs are Taken = frames_of_node n f ts fs (queue_calls_lem ts fs are)
-queue_of_node n f ts fs are (Refused refusal) = refl
+queue_of_node n f ts fs are (Ok tt) = frames_of_node n f ts fs (queue_calls_lem ts fs are)
+queue_of_node n f ts fs are (Err refusal) = refl

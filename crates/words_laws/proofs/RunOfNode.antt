@@ -9,13 +9,13 @@ use lib.ListN.{length, get_or}
 use Rattle.promise.proofs.Tests.{either}
 use Rattle.settings.specs.declared.domain_settings.DomainSettings.{DomainSettings}
 use Rattle.settings.specs.Node.{places}
-use Rattle.settings.specs.Domain.{absent_held}
+use Rattle.settings.specs.Domain.{absent_held, no_settings}
 use Rattle.node.specs.declared.Node.{Node}
 use Rattle.node.specs.New.{new_of}
 use Rattle.node_call.specs.Calls.{Call, frame, read, set, cycle, confirm, node_after, answers_to, node_after_all}
 use Rattle.node_laws.specs.Reachable.{IsCall, AreCalls, are_ids, all_ids, Reachable, new, after}
 use Rattle.record_words.specs.Fits.{SettingsFit}
-use Rattle.record_words.specs.Given.{is_coded, no_settings}
+use Rattle.record_words.specs.Given.{is_coded}
 use Rattle.record_words.proofs.Back.{settings_fit}
 use Rattle.node_words.specs.Words.{part_of}
 use Rattle.node_words.specs.Node.{list_by, node_words, NodeFits}

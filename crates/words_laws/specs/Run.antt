@@ -1,13 +1,12 @@
 -- The calls of a node in words, as `words_frame`, `words_call` and `words_cycle` promise them: any call as data, its
 -- answer, the lent bytes and the words after it, and calls one after another. Assumes nothing.
-use Rattle.std.specs.Prelude.{ℕ, ◌%◌, ◌*◌, cond, List, [], ◌∷◌, eqb, leb, length}
+use Rattle.refusal.specs.Numbers.{Outcome}
+use Rattle.std.specs.Prelude.{ℕ, ◌%◌, ◌*◌, cond, List, [], ◌∷◌, eqb, leb, length, Err, Ok}
 use Rattle.settings.specs.Node.{places}
 use Rattle.refusal.specs.declared.Refusal.TheVariants.{Reading, NoRoom}
 use Rattle.admission.specs.Reading.{is_good_reading}
 use Rattle.call_confirm.specs.ConfirmCall.{confirm_bytes}
 use Rattle.round.specs.Round.{pasted}
-use Rattle.node.specs.declared.cycles.CycleAnswer.{CycleAnswer}
-use Rattle.node.specs.declared.cycles.CycleAnswer.TheVariants.{Sent, Refused}
 use Rattle.node_call.specs.declared.CallAnswer.{CallAnswer}
 use Rattle.node_call.specs.declared.CallAnswer.TheVariants.{Frame, Read, Set, Cycle, Confirm}
 use Rattle.node_call.specs.Calls.{Call, frame, read, set, cycle, confirm, Answer, told_by, lent_to}
@@ -18,11 +17,11 @@ use Rattle.words_call.specs.Calls.{read_by, set_by, set_words, confirm_by, confi
 use Rattle.words_cycle.specs.Cycle.{cycle_number_in, went_from, cycled_words}
 
 -- ---- A main cycle: what it answers, and the words after it.
-abbrev pub cycle_answer : List ℕ → (t room : ℕ) → CycleAnswer
+abbrev pub cycle_answer : List ℕ → (t room : ℕ) → Outcome ℕ
 cycle_answer words t room =
     cond (is_good_reading (kept_of words) (record { 0 = t }))
-    (cond (leb (8 * syncs_of words) room) (Sent (length (went_from words t).frames)) (Refused NoRoom))
-    (Refused Reading)
+    (cond (leb (8 * syncs_of words) room) (Ok (length (went_from words t).frames)) (Err NoRoom))
+    (Err Reading)
 
 abbrev pub cycle_words : List ℕ → (t room : ℕ) → List ℕ
 cycle_words words t room = cond (eqb (cycle_number_in words t room) 0) (cycled_words words t) words

@@ -5,11 +5,11 @@
 
 ghost use Rattle.std.specs.Prelude.{◌<◌, ◌≡◌, ◌++◌, length, take, replicate};
 ghost use Rattle.settings.specs.Domain.{held_of};
+ghost use Rattle.settings.specs.Ranges.{within};
 ghost use Rattle.settings.specs.Node.{places, all_good};
 ghost use Rattle.record_words.specs.Record.{settings_words};
-ghost use Rattle.node_words.specs.Words.{node_size};
 ghost use Rattle.node_words.specs.Node.{records_words, node_words};
-ghost use Rattle.words_new.specs.New.{given_size, given_at, node_given, NewIn};
+ghost use Rattle.words_new.specs.New.{given_at, node_given, NewIn};
 ghost use Rattle.words_new.specs.Made.{is_taken, made_syncs, made_at, made_node};
 
 use node_words::{HEAD_WORDS, NODE_WORDS, RECORD_WORDS};
@@ -30,70 +30,60 @@ pub fn new_in(node: &mut [u64; NODE_WORDS], given: &[u64; GIVEN_WORDS]) -> u8
 }
 
 // Whether S and each domain are in range.
-fn is_taken(given: &[u64]) -> bool
-    requires { length given.now ≡ given_size }
+fn is_taken(given: &[u64; GIVEN_WORDS]) -> bool
     ensures { result ≡ is_taken given.now }
 {
-    let syncs = syncs_of(given);
-    if syncs < NodeSettings::SYNCS_PER_CYCLE_MIN {
-        return false;
-    }
-    if NodeSettings::SYNCS_PER_CYCLE_MAX < syncs {
-        return false;
-    }
-    all_good(given)
+    is_good_syncs(syncs_of(given)) && all_good(given)
 }
 
-fn all_good(given: &[u64]) -> bool
-    requires { length given.now ≡ given_size }
+fn is_good_syncs(syncs: u8) -> bool
+    ensures { result ≡ within 1 16 syncs }
+{
+    (NodeSettings::SYNCS_PER_CYCLE_MIN..=NodeSettings::SYNCS_PER_CYCLE_MAX).contains(&syncs)
+}
+
+fn all_good(given: &[u64; GIVEN_WORDS]) -> bool
     ensures { result ≡ all_good (node_given given.now).domains }
 {
-    let mut d = 0;
-    while d < NodeSettings::DOMAINS {
+    for d in 0..NodeSettings::DOMAINS {
         if !is_good(given_at(given, d)) {
             return false;
         }
-        d += 1;
     }
     true
 }
 
 // S of the settings.
-fn syncs_of(given: &[u64]) -> u8
-    requires { length given.now ≡ given_size }
+fn syncs_of(given: &[u64; GIVEN_WORDS]) -> u8
     ensures { result ≡ (node_given given.now).syncs_per_cycle }
 {
     (given[0] % 256) as u8
 }
 
-// The settings of a domain.
-fn given_at(given: &[u64], at: usize) -> DomainSettings
-    requires given_len { length given.now ≡ given_size }
-    requires at_lt_places { at < places }
+// The settings of a domain. That a place is one stands with each function that takes it: a type for it would be proved
+// where each loop makes it, and is no plainer.
+fn given_at(given: &[u64; GIVEN_WORDS], at: usize) -> DomainSettings
+    requires { at < places }
     ensures { result ≡ given_at given.now at }
 {
     let from = 1 + SETTINGS_WORDS * at;
     given_of(eleven(&given[from..from + SETTINGS_WORDS]))
 }
 
-// Eleven words by value.
+// Eleven words by value, one by one. Tried: copy_from_slice, with which `kg_new` moves 4,224 bytes, more than a node, and
+// takes 22,235 cycles for 11,953.
 fn eleven(words: &[u64]) -> [u64; SETTINGS_WORDS]
     requires { length words.now ≡ 11 }
     ensures { result ≡ words.now }
 {
-    let mut list = [0; SETTINGS_WORDS];
-    let mut i = 0;
-    while i < SETTINGS_WORDS {
-        list[i] = words[i];
-        i += 1;
-    }
-    list
+    [
+        words[0], words[1], words[2], words[3], words[4], words[5], words[6], words[7], words[8],
+        words[9], words[10],
+    ]
 }
 
 // The words of the node, of the settings that are taken, or of absent domains.
-fn put_node(node: &mut [u64], given: &[u64], taken: bool)
-    requires node_len { length node.old ≡ node_size }
-    requires given_len { length given.now ≡ given_size }
+fn put_node(node: &mut [u64; NODE_WORDS], given: &[u64; GIVEN_WORDS], taken: bool)
     ensures { node.new ≡ node_words (made_node taken given.now) }
 {
     node[0] = 0;
@@ -101,33 +91,27 @@ fn put_node(node: &mut [u64], given: &[u64], taken: bool)
     put_records(node, given, taken);
 }
 
-fn put_records(node: &mut [u64], given: &[u64], taken: bool)
-    requires node_len { length node.old ≡ node_size }
-    requires given_len { length given.now ≡ given_size }
+fn put_records(node: &mut [u64; NODE_WORDS], given: &[u64; GIVEN_WORDS], taken: bool)
     ensures { node.new ≡ take 2 node.old
         ++ records_words (made_node taken given.now).domains }
 {
-    let mut d = 0;
-    while d < NodeSettings::DOMAINS {
+    for d in 0..NodeSettings::DOMAINS {
         let from = HEAD_WORDS + RECORD_WORDS * d;
         let held = held_at(given, taken, d);
         put_record(&mut node[from..from + RECORD_WORDS], held);
-        d += 1;
     }
 }
 
 // S of the node.
-fn made_syncs(given: &[u64], taken: bool) -> u8
-    requires { length given.now ≡ given_size }
+fn made_syncs(given: &[u64; GIVEN_WORDS], taken: bool) -> u8
     ensures { result ≡ made_syncs taken given.now }
 {
     if taken { syncs_of(given) } else { 1 }
 }
 
 // The settings of a domain of the node.
-fn made_at(given: &[u64], taken: bool, at: usize) -> DomainSettings
-    requires given_len { length given.now ≡ given_size }
-    requires at_lt_places { at < places }
+fn made_at(given: &[u64; GIVEN_WORDS], taken: bool, at: usize) -> DomainSettings
+    requires { at < places }
     ensures { result ≡ made_at taken given.now at }
 {
     if taken {
@@ -138,30 +122,19 @@ fn made_at(given: &[u64], taken: bool, at: usize) -> DomainSettings
 }
 
 // What is held of them, in words.
-fn held_at(given: &[u64], taken: bool, at: usize) -> [u64; SETTINGS_WORDS]
-    requires given_len { length given.now ≡ given_size }
-    requires at_lt_places { at < places }
+fn held_at(given: &[u64; GIVEN_WORDS], taken: bool, at: usize) -> [u64; SETTINGS_WORDS]
+    requires { at < places }
     ensures { result ≡ settings_words (held_of (made_at taken given.now at)) at }
 {
     settings_words(made_at(given, taken, at).held(), at as u8)
 }
 
-// A record of these words, and of a state that is all 0.
+// A record of these words, and of a state that is all 0. A part of an array is a slice: to take it as an array is no
+// plainer.
 fn put_record(words: &mut [u64], held: [u64; SETTINGS_WORDS])
     requires { length words.old ≡ 22 }
     ensures { words.new ≡ held ++ replicate 11 0 }
 {
-    put_eleven(&mut words[..SETTINGS_WORDS], held);
-    put_eleven(&mut words[SETTINGS_WORDS..], [0; STATE_WORDS]);
-}
-
-fn put_eleven(words: &mut [u64], list: [u64; SETTINGS_WORDS])
-    requires { length words.old ≡ 11 }
-    ensures { words.new ≡ list }
-{
-    let mut i = 0;
-    while i < SETTINGS_WORDS {
-        words[i] = list[i];
-        i += 1;
-    }
+    words[..SETTINGS_WORDS].copy_from_slice(&held);
+    words[SETTINGS_WORDS..].copy_from_slice(&[0; STATE_WORDS]);
 }

@@ -3,27 +3,27 @@
 --   bad_stepped   a record that is known to be bad ends the run
 --   call_stepped  a record that is known to ask for a call is answered
 -- Assumes nothing.
+use Rattle.std.specs.Prelude.{None, Option, Some}
 use Prim.Native.Nat.{ℕ}
 use mathlib.Core.Path.{◌≡◌, refl, sym, subst}
 use mathlib.Core.Bool.{true}
 use mathlib.Core.List.{List}
-use Rattle.text.specs.Text.{Puts}
-use Rattle.text.proofs.Laws.{named}
+use Rattle.text.specs.declared.Out.{Out}
+use Rattle.text.specs.Text.{Wrote}
+use Rattle.text.proofs.Wrote.{named}
 use Rattle.node.specs.declared.Node.{Node}
 use Rattle.node_call.specs.declared.Request.{Request}
 use Rattle.node_call.specs.declared.CallAnswer.{CallAnswer}
-use Rattle.node_call.specs.declared.Called.{Called}
 use Rattle.node_call.specs.Called.{CalledIn}
-use Rattle.bench_record.specs.declared.Asked.{Asked}
-use Rattle.bench_record.specs.declared.Asked.TheVariants.{Call, Bad}
 use Rattle.bench_record.specs.declared.step.Step.{Step}
 use Rattle.bench_record.specs.Step.{Ended, Answered, RecordStepped}
+use Rattle.node.specs.declared.NodeStep.{NodeStep}
 
 pub answered :
-    (line : CallAnswer → List ℕ → List ℕ) {n : Node} {q : Request} {given lent sent before after : List ℕ}
-    {r : Called} {at end : ℕ} →
-    CalledIn n q given lent r sent → Puts (line r.answer sent) at before end after →
-    Answered line n q given lent at before (record { node = r.node; at = end; goes_on = true }) after
+    (line : CallAnswer → List ℕ → List ℕ) {n : Node} {q : Request} {given lent sent : List ℕ}
+    {r : NodeStep CallAnswer} {before after : Out} →
+    CalledIn n q given lent r sent → Wrote (line r.answer sent) before after →
+    Answered line n q given lent before (record { node = r.node; goes_on = true }) after
 answered line e p =
     record {
       node = e.node;
@@ -33,12 +33,12 @@ answered line e p =
 
 module _
     (line : CallAnswer → List ℕ → List ℕ) (given : List ℕ) (lent : Request → List ℕ) (n : Node) (item : ℕ)
-    {a : Asked} {at : ℕ} {before : List ℕ} {r : Step} {after : List ℕ} where
+    {a : Option Request} {before : Out} {r : Step} {after : Out} where
   pub bad_stepped :
-      a ≡ Bad → Ended n item at before r after → RecordStepped a line given lent n item at before r after
-  bad_stepped e p = subst (λ x. RecordStepped x line given lent n item at before r after) (sym e) p
+      a ≡ None → Ended n item before r after → RecordStepped a line given lent n item before r after
+  bad_stepped e p = subst (λ x. RecordStepped x line given lent n item before r after) (sym e) p
 
   pub call_stepped :
-      {q : Request} → a ≡ Call q → Answered line n q given (lent q) at before r after →
-      RecordStepped a line given lent n item at before r after
-  call_stepped e p = subst (λ x. RecordStepped x line given lent n item at before r after) (sym e) p
+      {q : Request} → a ≡ Some q → Answered line n q given (lent q) before r after →
+      RecordStepped a line given lent n item before r after
+  call_stepped e p = subst (λ x. RecordStepped x line given lent n item before r after) (sym e) p

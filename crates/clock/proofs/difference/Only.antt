@@ -10,11 +10,11 @@ use Rattle.promise.proofs.Laws.{equation_only}
 use Rattle.clock.specs.declared.reading.VirtualLocalTime.{VirtualLocalTime}
 use Rattle.clock.specs.declared.time.GlobalTime.{GlobalTime}
 use Rattle.clock.specs.declared.base.TimeBase.{TimeBase}
-use Rattle.clock.specs.declared.difference.TimeOrder.{TimeOrder}
+use Rattle.std.specs.declared.cmp.Ordering.{Ordering}
 use Rattle.clock.specs.Base.{time_at}
 use Rattle.clock.specs.Difference.{order_of, difference_of, exceeds, minus_exceeds}
 
-pub order_only : (a b : GlobalTime) → OnlyOne (λ (r : TimeOrder). r ≡ order_of a b)
+pub order_only : (a b : GlobalTime) → OnlyOne (λ (r : Ordering). r ≡ order_of a b)
 order_only a b = equation_only _
 
 pub minus_only : (a b : GlobalTime) → OnlyOne (λ (r : ℤ). r ≡ difference_of a b)

@@ -8,13 +8,15 @@ use Rattle.promise.specs.Only.{OnlyOne}
 use Rattle.promise.proofs.Laws.{equation_only}
 use Rattle.clock.specs.declared.reading.VirtualLocalTime.{VirtualLocalTime}
 use Rattle.node.specs.declared.Node.{Node}
-use Rattle.node.specs.declared.confirms.NodeConfirm.{NodeConfirm}
 use Rattle.node.specs.Confirm.{confirmed_bytes, NodeConfirmedIn}
+use Rattle.frame.specs.declared.values.Fup.{Fup}
+use Rattle.node.specs.declared.NodeStep.{NodeStep}
+use Rattle.refusal.specs.Numbers.{Outcome}
 
 pub on_confirmation_only :
     (n : Node) (domain : ℕ) (t : VirtualLocalTime) (counter : ℕ) (before : List ℕ) →
-    OnlyOne (λ (r : NodeConfirm × List ℕ). NodeConfirmedIn n domain t counter before r.0 r.1)
+    OnlyOne (λ (r : NodeStep (Outcome Fup) × List ℕ). NodeConfirmedIn n domain t counter before r.0 r.1)
 on_confirmation_only n domain t counter before x y p q =
     let a = equation_only _ x.0 y.0 p.call q.call in
-    let b = p.bytes ∙ ap (λ (r : NodeConfirm). confirmed_bytes r.answer n domain before) a ∙ sym q.bytes in
+    let b = p.bytes ∙ ap (λ (r : NodeStep (Outcome Fup)). confirmed_bytes r.answer n domain before) a ∙ sym q.bytes in
     λ i. (a i, b i)

@@ -8,18 +8,14 @@ use Rattle.promise.specs.Only.{OnlyOne}
 use Rattle.promise.proofs.Laws.{equation_only}
 use Rattle.clock.specs.declared.reading.VirtualLocalTime.{VirtualLocalTime}
 use Rattle.node.specs.declared.Node.{Node}
-use Rattle.node.specs.declared.cycles.CycleAnswer.{CycleAnswer}
-use Rattle.node.specs.declared.cycles.NodeCycle.{NodeCycle}
-use Rattle.node.specs.CycleAnswer.{cycle_number}
 use Rattle.node.specs.Cycle.{cycle_bytes, CycledIn}
+use Rattle.node.specs.declared.NodeStep.{NodeStep}
+use Rattle.refusal.specs.Numbers.{Outcome, outcome_number}
 
 pub on_main_cycle_only :
     (n : Node) (t : VirtualLocalTime) (before : List ℕ) →
-    OnlyOne (λ (r : NodeCycle × List ℕ). CycledIn n t before r.0 r.1)
+    OnlyOne (λ (r : NodeStep (Outcome ℕ) × List ℕ). CycledIn n t before r.0 r.1)
 on_main_cycle_only n t before x y p q =
     let a = equation_only _ x.0 y.0 p.call q.call in
-    let b = p.bytes ∙ ap (λ (r : NodeCycle). cycle_bytes r.answer n t before) a ∙ sym q.bytes in
+    let b = p.bytes ∙ ap (λ (r : NodeStep (Outcome ℕ)). cycle_bytes r.answer n t before) a ∙ sym q.bytes in
     λ i. (a i, b i)
-
-pub number_only : (answer : CycleAnswer) → OnlyOne (λ (r : ℕ). r ≡ cycle_number answer)
-number_only answer = equation_only _

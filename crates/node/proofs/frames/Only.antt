@@ -8,9 +8,11 @@ use Rattle.promise.specs.Only.{OnlyOne}
 use Rattle.promise.proofs.Laws.{equation_only}
 use Rattle.clock.specs.declared.reading.VirtualLocalTime.{VirtualLocalTime}
 use Rattle.node.specs.declared.Node.{Node}
-use Rattle.node.specs.declared.frames.NodeFrame.{NodeFrame}
 use Rattle.node.specs.Frame.{node_frame_of}
+use Rattle.node.specs.declared.NodeStep.{NodeStep}
+use Rattle.refusal.specs.Numbers.{Outcome}
+use Rattle.slave_answer.specs.declared.Taken.{Taken}
 
 pub on_frame_only :
-    (n : Node) (t : VirtualLocalTime) (bytes : List ℕ) → OnlyOne (λ (r : NodeFrame). r ≡ node_frame_of n t bytes)
+    (n : Node) (t : VirtualLocalTime) (bytes : List ℕ) → OnlyOne (λ (r : NodeStep (Outcome Taken)). r ≡ node_frame_of n t bytes)
 on_frame_only n t bytes = equation_only _

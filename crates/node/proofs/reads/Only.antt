@@ -6,10 +6,11 @@ use mathlib.Core.Path.{◌≡◌}
 use Rattle.promise.specs.Only.{OnlyOne}
 use Rattle.promise.proofs.Laws.{equation_only}
 use Rattle.clock.specs.declared.reading.VirtualLocalTime.{VirtualLocalTime}
-use Rattle.call_read.specs.declared.ReadAnswer.{ReadAnswer}
 use Rattle.node.specs.declared.Node.{Node}
 use Rattle.node.specs.Read.{node_read_of}
+use Rattle.call_read.specs.declared.Shown.{Shown}
+use Rattle.refusal.specs.Numbers.{Outcome}
 
 pub on_read_only :
-    (n : Node) (domain : ℕ) (t : VirtualLocalTime) → OnlyOne (λ (r : ReadAnswer). r ≡ node_read_of n domain t)
+    (n : Node) (domain : ℕ) (t : VirtualLocalTime) → OnlyOne (λ (r : Outcome Shown). r ≡ node_read_of n domain t)
 on_read_only n domain t = equation_only _

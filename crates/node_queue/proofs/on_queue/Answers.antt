@@ -1,12 +1,13 @@
 -- `node_queue::on_queue` meets its contract: a frame keeps the invariant. Assumes nothing.
 use Rattle.std.proofs.Common.{arith, ℕ, ◌+◌, ◌-◌, ◌*◌, ◌≡◌, ap, ◌∙◌, take, drop, get_or, length-set}
 use Rattle.promise.proofs.Lists.{get_d_any}
-use Rattle.slave_answer.specs.Answer.{frame_number}
-use Rattle.node.specs.declared.frames.NodeFrame.{NodeFrame}
 use Rattle.node.specs.Frame.{node_frame_of}
 use Rattle.node.proofs.frames.Stored.{frame_stored_lem}
 use Rattle.node_queue.proofs.Rest.{onward}
 use Rattle.node_queue.proofs.on_queue.Goals as goal
+use Rattle.node.specs.declared.NodeStep.{NodeStep}
+use Rattle.refusal.specs.Numbers.{Outcome, outcome_number}
+use Rattle.slave_answer.specs.declared.Taken.{Taken}
 
 pub loop-i-preserved : goal.loop-i-preserved
 loop-i-preserved c =
@@ -31,7 +32,7 @@ loop-i-preserved c =
       simp length-set inv.4,
       simp length-set inv.5,
       onward _ _ _ _ _ _ _ _ _ (omega arith) (omega arith)
-          (ap (λ (r : NodeFrame). r.node) stored)
-          (c.number.ensures ∙ ap (λ (r : NodeFrame). frame_number r.answer) stored)
+          (ap (λ (r : NodeStep (Outcome Taken)). r.node) stored)
+          (c.number.ensures ∙ ap (λ (r : NodeStep (Outcome Taken)). outcome_number r.answer) stored)
           inv.6,
     )

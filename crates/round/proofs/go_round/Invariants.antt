@@ -1,5 +1,5 @@
 -- `round::go_round` meets its contract. The invariant: what is left of the turns gives what all of them
--- give (`Rest`), and a turn keeps it (`onward`). The measure is what is left of the places.
+-- give (`Rest`), and a turn keeps it (`onward`).
 -- Assumes nothing.
 use Rattle.std.proofs.Common.{◌≡◌, ◌-◌, ◌≤◌, ◌<◌, length}
 use Rattle.settings.specs.Node.{places}
@@ -13,6 +13,3 @@ invariant-loop-turns l =
     × (length l.out ≡ length l.initial.out)
     × Rest (round_of l.initial.records l.first l.t l.most) l.initial.out l.most l.t (places - l.turns) l.at l.sent
     l.records l.next l.out
-
-abbrev pub decreases-loop-turns : goal.decreases-loop-turns
-decreases-loop-turns l = places - l.turns

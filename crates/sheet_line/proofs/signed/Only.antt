@@ -4,10 +4,10 @@
 use Prim.Native.Nat.{ℕ}
 use mathlib.Core.List.{List}
 use lib.IntN.{ℤ}
+use Rattle.std.specs.Prelude.{Option}
 use Rattle.promise.specs.Only.{OnlyOne}
 use Rattle.text.specs.Text.{Puts}
 use Rattle.text.proofs.Only.{puts_only}
-use Rattle.sheet_sum.specs.declared.Told.{Told}
 use Rattle.sheet_line.specs.Signed.{plain_text, signed_text, told_text}
 
 pub put_plain_only :
@@ -21,6 +21,6 @@ pub put_signed_only :
 put_signed_only d = puts_only (signed_text d)
 
 pub put_told_only :
-    (told : Told) (at : ℕ) (before : List ℕ) →
+    (told : Option ℤ) (at : ℕ) (before : List ℕ) →
     OnlyOne (λ (r : ℕ × List ℕ). Puts (told_text told) at before r.0 r.1)
 put_told_only told = puts_only (told_text told)

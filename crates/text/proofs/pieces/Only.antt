@@ -1,14 +1,16 @@
 -- No two results satisfy the promise of F, as `F_only` for each public function F that reads and writes nothing. A
 -- result with lent bytes is a pair of both. No contract cites this file.
 -- Assumes nothing.
-use Prim.Native.Nat.{ℕ, min}
+use Prim.Native.Nat.{ℕ}
 use mathlib.Core.Path.{◌≡◌, sym, ap, ◌∙◌}
 use mathlib.Core.List.{List}
 use lib.ListN.{drop}
 use lib.Seq.{paste}
 use Rattle.promise.specs.Only.{OnlyOne}
 use Rattle.promise.proofs.Laws.{equation_only}
-use Rattle.text.specs.Pieces.{KeptRest, place_for, next_item}
+use Rattle.text.specs.declared.Out.{Out}
+use Rattle.text.specs.Pieces.{KeptRest, RoomFor, next_item}
+use Rattle.text.proofs.Only.{left}
 
 pub keep_rest_only :
     (used held : ℕ) (before : List ℕ) →
@@ -18,11 +20,10 @@ keep_rest_only used held before x y p q =
     let bytes = p.bytes ∙ ap (paste before 0 (drop used before)) count ∙ sym q.bytes in
     λ i. (count i, bytes i)
 
-pub least_only : (a b : ℕ) → OnlyOne (λ (r : ℕ). r ≡ min a b)
-least_only a b = equation_only (min a b)
-
-pub with_room_only : (at line length : ℕ) → OnlyOne (λ (r : ℕ). r ≡ place_for at line length)
-with_room_only at line length = equation_only (place_for at line length)
+pub with_room_only :
+    (line : ℕ) (before : Out) →
+    OnlyOne (λ (r : ℕ × List ℕ). RoomFor line before (left before r))
+with_room_only line before x y p q = λ i. ((p.place ∙ sym q.place) i, (p.bytes ∙ sym q.bytes) i)
 
 pub next_item_only : (item : ℕ) → OnlyOne (λ (r : ℕ). r ≡ next_item item)
 next_item_only item = equation_only (next_item item)

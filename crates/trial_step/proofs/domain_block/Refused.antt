@@ -4,7 +4,7 @@
 use mathlib.Core.Path.{◌≡◌, refl}
 use mathlib.Core.Bool.{false}
 use Rattle.settings.specs.Ranges.{is_good}
-use Rattle.trial_step.specs.DomainBlock.{no_settings}
+use Rattle.settings.specs.Domain.{no_settings}
 
 pub no_settings_refused : is_good no_settings ≡ false
 no_settings_refused = refl

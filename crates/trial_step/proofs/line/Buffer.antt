@@ -1,5 +1,6 @@
 -- A lent buffer in the line: a dash where it has no byte, and otherwise its bytes; and a main cycle's, sent or
 -- refused. Assumes nothing.
+use Rattle.std.specs.Prelude.{Err, Ok}
 use Prim.Native.Nat.{ℕ}
 use mathlib.Core.Path.{◌≡◌, refl}
 use mathlib.Core.List.{List, [], ◌∷◌, ◌++◌}
@@ -7,11 +8,10 @@ use native.Mathlib.Omega.{arith}
 use lib.ListN.{length}
 use Rattle.text.specs.Text.{hex_of, decimal}
 use Rattle.text.specs.Lines.{blank}
-use Rattle.node.specs.declared.cycles.CycleAnswer.{CycleAnswer}
-use Rattle.node.specs.declared.cycles.CycleAnswer.TheVariants.{Sent, Refused}
 use Rattle.node.specs.CycleAnswer.{cycle_count}
 use Rattle.node_call.specs.declared.CallAnswer.TheVariants.{Cycle}
 use Rattle.trial_step.specs.TrialLine.{shown_buffer, buffer_text, trial_values}
+use Rattle.refusal.specs.Numbers.{Outcome}
 
 pub no_byte : (buffer : List ℕ) → length buffer ≡ 0 → 45 ∷ [] ≡ shown_buffer buffer
 no_byte [] none = refl
@@ -23,7 +23,7 @@ some_byte (b ∷ bs) some = refl
 
 -- by cases: each of the two answers has the buffer in its text
 pub cycle_shows :
-    (answer : CycleAnswer) (buffer : List ℕ) →
+    (answer : Outcome ℕ) (buffer : List ℕ) →
     blank ++ decimal (cycle_count answer) ++ buffer_text buffer ≡ trial_values (Cycle answer) buffer
-cycle_shows (Sent count) buffer = refl
-cycle_shows (Refused refusal) buffer = refl
+cycle_shows (Ok count) buffer = refl
+cycle_shows (Err refusal) buffer = refl

@@ -9,18 +9,16 @@ use Rattle.words_new.proofs.all_good.Goals as goal
 pub returns-then-not-is_good : goal.returns-then-not-is_good
 returns-then-not-is_good c =
     good_stop places (given_at c.args.given.now) c.loop-d.d _ _ (omega arith)
-    (c.is_good.ensures ∙ ap is_good c.given_at.ensures) c.loop-d.invariant.1
+    (c.is_good.ensures ∙ ap is_good c.given_at.ensures) c.loop-d.invariant
     c.if-not-is_good.true
 
 pub loop-d-preserved : goal.loop-d-preserved
-loop-d-preserved c = (
-  omega arith,
-  good_on places (given_at c.args.given.now) c.loop-d.d _ _ (omega arith)
-      (c.is_good.ensures ∙ ap is_good c.given_at.ensures) c.loop-d.invariant.1
-      c.if-not-is_good.false,
-)
+loop-d-preserved c =
+    good_on places (given_at c.args.given.now) c.loop-d.d _ _ (omega arith)
+    (c.is_good.ensures ∙ ap is_good c.given_at.ensures) c.loop-d.invariant
+    c.if-not-is_good.false
 
 pub returns : goal.returns
 returns c =
     sym (ap all_good (left_none places (given_at c.args.given.now) c.loop-d.d (omega arith)))
-    ∙ c.loop-d.invariant.1
+    ∙ c.loop-d.invariant

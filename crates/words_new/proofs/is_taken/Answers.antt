@@ -1,22 +1,20 @@
--- Each branch knows on which side of its bound S is.
-use Rattle.std.proofs.Common.{◌∙◌, arith}
-use borrow.Author.Tests.{le-leb, lt-leb}
+-- Whether S is in range decides first, and then the domains.
+use Rattle.std.proofs.Common.{◌≡◌, sym, ap, ◌∙◌, Bool, true, false, ◌&&◌}
+use Rattle.settings.specs.Ranges.{within}
+use Rattle.settings.specs.Node.{all_good}
 use Rattle.words_new.specs.New.{node_given}
 use Rattle.words_new.proofs.is_taken.Goals as goal
 
-pub returns-then-syncs-lt-SYNCS_PER_CYCLE_MIN : goal.returns-then-syncs-lt-SYNCS_PER_CYCLE_MIN
-returns-then-syncs-lt-SYNCS_PER_CYCLE_MIN c =
-    let syncs = (node_given c.args.given.now).syncs_per_cycle in
-    rw (lt-leb 1 syncs (omega (arith, c.syncs_of-syncs.ensures)))
+pub returns-then-is_good_syncs : goal.returns-then-is_good_syncs
+returns-then-is_good_syncs c =
+    let given = node_given c.args.given.now in
+    let inside : within 1 16 given.syncs_per_cycle ≡ true =
+    sym (c.is_good_syncs.ensures ∙ ap (within 1 16) c.syncs_of.ensures) ∙ c.if-is_good_syncs.true in
+    c.all_good.ensures ∙ ap (λ (b : Bool). b && all_good given.domains) (sym inside)
 
-pub returns-then-syncs-gt-SYNCS_PER_CYCLE_MAX : goal.returns-then-syncs-gt-SYNCS_PER_CYCLE_MAX
-returns-then-syncs-gt-SYNCS_PER_CYCLE_MAX c =
-    let syncs = (node_given c.args.given.now).syncs_per_cycle in
-    let e = c.syncs_of-syncs.ensures in
-    rw (le-leb 1 syncs (omega (arith, e)), lt-leb syncs 16 (omega (arith, e)))
-
-pub returns : goal.returns
-returns c =
-    let syncs = (node_given c.args.given.now).syncs_per_cycle in
-    let e = c.syncs_of-syncs.ensures in
-    c.all_good.ensures ∙ rw (le-leb 1 syncs (omega (arith, e)), le-leb syncs 16 (omega (arith, e)))
+pub returns-else-is_good_syncs : goal.returns-else-is_good_syncs
+returns-else-is_good_syncs c =
+    let given = node_given c.args.given.now in
+    let outside : within 1 16 given.syncs_per_cycle ≡ false =
+    sym (c.is_good_syncs.ensures ∙ ap (within 1 16) c.syncs_of.ensures) ∙ c.if-is_good_syncs.false in
+    c.if-is_good_syncs.false ∙ ap (λ (b : Bool). b && all_good given.domains) (sym outside)

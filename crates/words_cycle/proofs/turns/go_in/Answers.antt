@@ -18,7 +18,6 @@ pub loop-turns-init : goal.loop-turns-init
 loop-turns-init c = (
   omega arith,
   omega arith,
-  omega arith,
   record { words_after = refl; next_one = refl; count = omega arith; bytes = refl },
 )
 
@@ -32,7 +31,7 @@ loop-turns-preserved c =
       | then-sent-most+then-turn_in w ↦ (
         omega arith,
         rw (w.node-is, w.out-is, w.next-is, w.sent-is)
-            (asked_sends _ _ _ _ _ _ _ _ _ _ w.if-sent-most.true w.turn_in.ensures w.if-turn_in.true l.invariant.1),
+            (asked_sends _ _ _ _ _ _ _ _ _ _ w.if-sent-most.true w.turn_in.ensures w.if-turn_in.true l.invariant.0),
       )
       | then-sent-most+else-turn_in w ↦ (
         omega arith,
@@ -45,10 +44,9 @@ loop-turns-preserved c =
       )
     ] in (
       omega arith,
-      omega arith,
       omega (arith, turned.0),
-      onward _ _ _ _ _ _ _ _ _ _ _ _ _ _ turned.1 (left_is l.invariant.3 (omega arith)),
+      onward _ _ _ _ _ _ _ _ _ _ _ _ _ _ turned.1 (left_is l.invariant.2 (omega arith)),
     )
 
 pub returns : goal.returns
-returns c = at_end _ _ _ _ _ _ _ _ _ _ (left_is c.loop-turns.invariant.3 (omega arith))
+returns c = at_end _ _ _ _ _ _ _ _ _ _ (left_is c.loop-turns.invariant.2 (omega arith))

@@ -1,5 +1,4 @@
--- The invariant: what is left of the turns gives what all of them give (`Rest`), and a turn keeps it (`onward`). The
--- measure is what is left of the places.
+-- The invariant: what is left of the turns gives what all of them give (`Rest`), and a turn keeps it (`onward`).
 -- Assumes nothing.
 use Rattle.std.proofs.Common.{◌-◌, ◌≤◌, ◌<◌}
 use Rattle.settings.specs.Node.{places}
@@ -9,9 +8,6 @@ use Rattle.words_cycle.proofs.turns.go_in.Given as goal
 
 abbrev pub invariant-loop-turns : goal.invariant-loop-turns
 invariant-loop-turns l =
-    (l.turns ≤ places) × (l.at < places) × (l.sent ≤ l.turns)
-    × Rest (went_by l.initial.node l.first l.t l.most) l.initial.out l.most l.t (places - l.turns) l.at l.sent l.node
+    (l.at < places) × (l.sent ≤ l._turns)
+    × Rest (went_by l.initial.node l.first l.t l.most) l.initial.out l.most l.t (places - l._turns) l.at l.sent l.node
     l.next l.out
-
-abbrev pub decreases-loop-turns : goal.decreases-loop-turns
-decreases-loop-turns l = places - l.turns

@@ -18,4 +18,4 @@ pub returns : goal.returns
 returns c =
     let a = c.args in
     step_sends a.node.now a.at a.t a.out.now a.sent _ _ c.requires.at_lt_places c.record_in-record.ensures
-    c.send-step.ensures c.in-Sent.sync _ _ c.in-Sent.is c.put_sent.ensures c.write_frame.ensures.bytes
+    c.send-step.ensures c.in-Some.sync _ _ c.in-Some.is c.put_sent.ensures c.write_frame.ensures.bytes

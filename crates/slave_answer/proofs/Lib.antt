@@ -1,2 +1,0 @@
--- The laws of `slave_answer`.
-pub mod Only
