@@ -60,7 +60,8 @@ fn ask_in(rt: &impl Print, n: Node, item: u64, request: Request, lent: &mut [u8]
         at: 0,
     };
     put_trial_line(&mut out, item, called.answer, lent);
-    write_out(rt, &out);
+    let end = out.at;
+    write_out(rt, out.bytes, end);
     called.node
 }
 

@@ -1,5 +1,5 @@
 // A word of a half and four bytes.
-ghost use Rattle.std.specs.Prelude.{◌≤◌, ◌≡◌};
+ghost use Rattle.std.specs.Prelude.{◌≡◌};
 ghost use Rattle.record_words.specs.Packed.{packed_of, half_of, word_of, sixteen_of};
 
 pub fn packed(low: u32, a: u8, b: u8, c: u8, d: u8) -> u64
@@ -15,20 +15,20 @@ pub fn half(a: u8, b: u8, c: u8, d: u8) -> u32
     u32::from_le_bytes([a, b, c, d])
 }
 
-// Eight of sixteen bytes as a word: from a place on.
-pub fn word_of(bytes: [u8; 16], at: usize) -> u64
-    requires { at ≤ 8 }
-    ensures { result ≡ word_of at bytes }
+// The first eight of sixteen bytes as a word, and the last eight.
+pub fn first_word(bytes: [u8; 16]) -> u64
+    ensures { result ≡ word_of 0 bytes }
 {
     u64::from_le_bytes([
-        bytes[at],
-        bytes[at + 1],
-        bytes[at + 2],
-        bytes[at + 3],
-        bytes[at + 4],
-        bytes[at + 5],
-        bytes[at + 6],
-        bytes[at + 7],
+        bytes[0], bytes[1], bytes[2], bytes[3], bytes[4], bytes[5], bytes[6], bytes[7],
+    ])
+}
+
+pub fn last_word(bytes: [u8; 16]) -> u64
+    ensures { result ≡ word_of 8 bytes }
+{
+    u64::from_le_bytes([
+        bytes[8], bytes[9], bytes[10], bytes[11], bytes[12], bytes[13], bytes[14], bytes[15],
     ])
 }
 

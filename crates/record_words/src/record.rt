@@ -10,7 +10,7 @@ ghost use Rattle.record_words.specs.Record.{
   state_words,
 };
 
-use crate::pack::{half, packed, sixteen_of, word_of};
+use crate::pack::{first_word, half, last_word, packed, sixteen_of};
 use crate::parts::{
     flag_code, held_of, held_words, last_of, last_words, leap_of, leap_words, mode_code, mode_of,
     pairing_of, pairing_words, role_code, role_of, security_code, security_of, sending_of,
@@ -105,10 +105,10 @@ pub fn settings_words(settings: DomainSettings, number: u8) -> [u64; SETTINGS_WO
         settings.period,
         kinds_word(settings, number),
         sent_word(settings),
-        word_of(sync, 0),
-        word_of(sync, 8),
-        word_of(fup, 0),
-        word_of(fup, 8),
+        first_word(sync),
+        last_word(sync),
+        first_word(fup),
+        last_word(fup),
     ]
 }
 

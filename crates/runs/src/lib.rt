@@ -25,8 +25,10 @@ pub trait Program {
     fn step(&self, node: Node, item: u64, bytes: &[u8], out: &mut Out) -> Step;
 }
 
+#[derive(Clone, Copy)]
 pub struct Bench;
 
+#[derive(Clone, Copy)]
 pub struct Trial;
 
 // A record of the bench.
@@ -123,7 +125,8 @@ impl Run {
                 if self.held > 0 {
                     let mut line = Out { bytes: out, at: 0 };
                     line.put_cut(self.item);
-                    write_out(rt, &line);
+                    let end = line.at;
+                    write_out(rt, line.bytes, end);
                 }
                 self.goes_on = false;
             }
@@ -150,14 +153,16 @@ impl Run {
                 break;
             }
             let (bytes, others) = rest.split_at(length);
-            with_room(rt, &mut lines, LINE);
+            let at = lines.at;
+            lines.at = with_room(rt, lines.bytes, at, LINE);
             let step = program.step(self.node, self.item, bytes, &mut lines);
             self.node = step.node;
             self.item = next_item(self.item);
             self.goes_on = step.goes_on;
             rest = others;
         }
-        if !write_out(rt, &lines) {
+        let end = lines.at;
+        if !write_out(rt, lines.bytes, end) {
             self.goes_on = false;
         }
         input.len() - rest.len()

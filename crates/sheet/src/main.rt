@@ -73,7 +73,8 @@ impl Run {
     fn report(&mut self, rt: &impl Print, out: &mut [u8]) {
         let mut text = Out { bytes: out, at: 0 };
         put_report(&mut text, self.account, self.held);
-        write_out(rt, &text);
+        let end = text.at;
+        write_out(rt, text.bytes, end);
         self.goes_on = false;
     }
 

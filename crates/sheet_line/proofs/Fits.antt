@@ -19,6 +19,8 @@ use Rattle.settings.specs.Node.{places}
 use Rattle.domain.specs.Records.{record_at}
 use Rattle.node.specs.declared.Node.{Node}
 use Rattle.sheet_sum.specs.declared.Sum.{Sum}
+use Rattle.sheet_sum.specs.declared.Told.{Told}
+use Rattle.sheet_sum.specs.declared.Told.TheVariants.{Plus, Minus}
 use Rattle.sheet_sum.specs.Sum.{sum_of, told_of}
 use Rattle.sheet_tally.specs.declared.spread.Spread.{Spread}
 use Rattle.sheet_tally.specs.declared.Tally.{Tally}
@@ -47,8 +49,9 @@ signed_fits : (d : ℤ) → length (signed_text d) ≤ 22
 signed_fits (pos m) = omega (arith, plain_fits m)
 signed_fits (negsuc m) = minus_fits (suc m)
 
-told_fits : (told : Option ℤ) → length (told_text told) ≤ 22
-told_fits (Some sum) = signed_fits sum
+told_fits : (told : Option Told) → length (told_text told) ≤ 22
+told_fits (Some (Plus m)) = omega (arith, plain_fits m)
+told_fits (Some (Minus m)) = minus_fits m
 told_fits None = omega arith
 
 -- ---- a line

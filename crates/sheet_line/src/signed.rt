@@ -3,6 +3,7 @@ ghost use Rattle.text.specs.Text.{Wrote};
 ghost use Rattle.sheet_line.specs.Signed.{plain_text, minus_text, signed_text, told_text};
 
 use clock::magnitude;
+use sheet_sum::Told;
 use text::Out;
 
 // One without a sign.
@@ -25,11 +26,12 @@ pub fn put_signed(out: &mut Out, d: i64)
 }
 
 // A sum; `None` is one outside signed 64 bits.
-pub fn put_told(out: &mut Out, told: Option<i64>)
+pub fn put_told(out: &mut Out, told: Option<Told>)
     ensures { Wrote (told_text told) out.old out.new }
 {
     match told {
-        Some(sum) => put_signed(out, sum),
+        Some(Told::Plus(m)) => put_plain(out, m),
+        Some(Told::Minus(m)) => put_minus(out, m),
         None => out.put_bytes(b" over"),
     }
 }

@@ -1,12 +1,15 @@
--- Laws of the two halves of a number of 128 bits, as a machine of 64 keeps them. No contract cites this file.
+-- Laws of the two halves of a number of 128 bits, as a machine of 64 keeps them: they speak of what `plus` answers by
+-- `more_halves`, and of what `told` tells by `told_halves` of `Sums`. No contract cites this file.
 --   as_wide        two numbers of 64 bits that make n are n's
 --   wide_value     and n is what they make
 --   more_plain, more_carried, more_held        so much more, in its three cases
+--   more_halves                                and what `plus` answers has the halves that these say
 --   gap_none, gap_plain, gap_even, gap_borrowed   what a number is more than another, in its four
+--   gap_halves, gap_value                      and a gap that `told` goes by has, and is, what these say
 --   no_high, some_high                         a number without a high half, and with one
 -- Assumes nothing.
 use Prim.Native.Nat.{ℕ, ◌+◌, ◌-◌, ◌*◌, ◌/◌, ◌%◌, ◌^◌, ◌≤◌, ◌<◌}
-use mathlib.Core.Path.{◌≡◌}
+use mathlib.Core.Path.{◌≡◌, sym, ap, ◌∙◌}
 use native.Mathlib.Nat.{lt_of_lt_of_le, le_trans, mul-le-mul_right}
 use native.Mathlib.Omega.{arith}
 use Rattle.sheet_sum.specs.Wide.{more_of}
@@ -65,6 +68,10 @@ more_held w more h over =
     let last : 2 ^ 64 * 2 ^ 64 ≤ value_of w + more = le_trans (mul-le-mul_right (2 ^ 64) h) beyond in
     as_wide (2 ^ 64 - 1) (2 ^ 64 - 1) (more_of (value_of w) more) (omega arith) (omega arith)
 
+-- the halves of what `plus` answers
+pub more_halves : (n more : ℕ) → wide_of (more_of n more) ≡ halves_more (wide_of n) more
+more_halves n more = ap (λ (k : ℕ). wide_of (more_of k more)) (sym (wide_value n))
+
 -- ---- what a is more than b
 
 pub gap_none : (a b : Wide) → a.high < b.high → a.low < 2 ^ 64 → record { high = 0; low = 0 } ≡ gap_of a b
@@ -85,6 +92,13 @@ pub gap_borrowed :
 gap_borrowed a b h l fits =
     as_wide (a.high - b.high - 1) (2 ^ 64 - 1 - (b.low - a.low - 1)) (value_of a - value_of b) (omega arith)
     (omega arith)
+
+-- the halves of the gaps by which `told` goes, and the gaps
+pub gap_halves : (a b : ℕ) → wide_of (a - b) ≡ gap_of (wide_of a) (wide_of b)
+gap_halves a b = let more = sym (wide_value a) in let less = sym (wide_value b) in λ i. wide_of (more i - less i)
+
+pub gap_value : (a b : ℕ) → value_of (gap_of (wide_of a) (wide_of b)) ≡ a - b
+gap_value a b = ap value_of (sym (gap_halves a b)) ∙ wide_value (a - b)
 
 -- ---- the high half
 

@@ -7,6 +7,7 @@ use lib.IntN.{ℤ}
 use Rattle.promise.specs.Only.{OnlyOne}
 use Rattle.promise.proofs.Laws.{equation_only}
 use Rattle.sheet_sum.specs.declared.Sum.{Sum}
+use Rattle.sheet_sum.specs.declared.Told.{Told}
 use Rattle.sheet_sum.specs.Wide.{more_of}
 use Rattle.sheet_sum.specs.Sum.{no_sum, sum_with, sum_of, told_of}
 
@@ -19,5 +20,5 @@ new_only = equation_only no_sum
 pub with_only : (s : Sum) (d : ℤ) → OnlyOne (λ (r : Sum). r ≡ sum_with s d)
 with_only s d = equation_only (sum_with s d)
 
-pub told_only : (s : Sum) → OnlyOne (λ (r : Option ℤ). r ≡ told_of (sum_of s))
+pub told_only : (s : Sum) → OnlyOne (λ (r : Option Told). r ≡ told_of (sum_of s))
 told_only s = equation_only (told_of (sum_of s))

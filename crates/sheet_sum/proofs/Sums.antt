@@ -1,6 +1,7 @@
 -- Laws of a sum. No contract cites this file.
 --   goes_behind, goes_ahead   where a D goes, by its sign
 --   told_plus, told_minus     what a sum tells, by which of its two numbers is more
+--   told_halves               the same by the halves of its two numbers
 --   sum_exact                 after fewer than 2^64 D of 64 bits the sum is their total
 --   told_over                 a sum tells none exactly where it is outside signed 64 bits
 -- Assumes nothing.
@@ -8,7 +9,7 @@ use Prim.Native.Nat.{ℕ, suc, ◌+◌, ◌-◌, ◌*◌, ◌^◌, ◌≤◌, �
 use mathlib.Core.Path.{◌≡◌, refl, sym, ap, ◌∙◌}
 use mathlib.Core.Bool.{true, false}
 use mathlib.Core.List.{List, [], ◌∷◌}
-use Rattle.std.specs.Prelude.{Option, Some, None, cond, neg_ℤ}
+use Rattle.std.specs.Prelude.{Option, None, cond}
 use native.Mathlib.Nat.{zero-add, le_of_lt, lt_of_le_of_lt, mul-le-mul_right}
 use native.Mathlib.Omega.{arith}
 use lib.IntN.{ℤ, pos, negsuc, nat_abs, sub_ℕ, ◌+ℤ◌, +ℤ_idl, +ℤ_idr, +ℤ_assoc}
@@ -18,6 +19,7 @@ use borrow.Author.Tests.{ltb-true, ltb-false, lt-ltb, le-ltb, leb-true, leb-fals
 use lib.Dec.{leb, ltb, eqb, lit<}
 use Rattle.promise.proofs.Tests.{either_told}
 use Rattle.sheet_sum.specs.declared.Sum.{Sum}
+use Rattle.sheet_sum.specs.declared.Told.{Told}
 use Rattle.sheet_sum.specs.Wide.{more_of}
 use Rattle.sheet_sum.specs.Sum.{
   total,
@@ -27,8 +29,11 @@ use Rattle.sheet_sum.specs.Sum.{
   sum_with,
   sum_with_all,
   sum_of,
+  plus_of,
+  minus_of,
   told_of,
 }
+use Rattle.sheet_sum.proofs.Halves.{value_of, wide_of, gap_of, gap_value}
 
 -- ---- a D more
 
@@ -46,12 +51,6 @@ goes_ahead s (negsuc m) e = cc
 
 -- ---- what a sum tells
 
-abbrev pub plus_of : ℕ → Option ℤ
-plus_of m = cond (leb m (2 ^ 63 - 1)) (Some (pos m)) None
-
-abbrev pub minus_of : ℕ → Option ℤ
-minus_of m = cond (leb m (2 ^ 63)) (Some (neg_ℤ (pos m))) None
-
 not_less : (a b : ℕ) → b - a ≡ 0 → plus_of (a - b) ≡ told_of (sub_ℕ a b)
 not_less a b e = rw (le-ltb a b (omega arith))
 
@@ -67,6 +66,18 @@ module _ (s : Sum) where
 
   pub told_minus : eqb (s.behind - s.ahead) 0 ≡ false → minus_of (s.behind - s.ahead) ≡ told_of (sum_of s)
   told_minus e = less s.ahead s.behind (λ z. eqb-false _ 0 e z)
+
+  -- the gaps, as their halves have them, are those that the sum is told by
+  pub told_halves :
+      let ahead = value_of (gap_of (wide_of s.ahead) (wide_of s.behind)) in
+      let behind = value_of (gap_of (wide_of s.behind) (wide_of s.ahead)) in
+      told_of (sum_of s) ≡ cond (eqb behind 0) (plus_of ahead) (minus_of behind)
+  told_halves =
+      let ahead = sym (gap_value s.ahead s.behind) in
+      let behind = sym (gap_value s.behind s.ahead) in
+      either_told (λ (told : Option Told). told_of (sum_of s) ≡ told) (eqb (s.behind - s.ahead) 0)
+      (λ e. sym (told_plus e)) (λ e. sym (told_minus e))
+      ∙ (λ i. cond (eqb (behind i) 0) (plus_of (ahead i)) (minus_of (behind i)))
 
 -- ---- a difference of naturals, with more on one side
 
@@ -164,19 +175,19 @@ sum_exact ds h few =
 
 -- ---- `over`
 
-abbrev OverExactly : Option ℤ → ℤ → Type 0
+abbrev OverExactly : Option Told → ℤ → Type 0
 OverExactly told z = (told ≡ None → Within64 z → ⊥) × ((Within64 z → ⊥) → told ≡ None)
 
 pub told_over : (z : ℤ) → OverExactly (told_of z) z
 told_over (pos m) =
-    either_told (λ (told : Option ℤ). OverExactly told (pos m)) (leb m _)
+    either_told (λ (told : Option Told). OverExactly told (pos m)) (leb m _)
     (λ e. (
       λ over h. let no : ◌≡◌ {A = ℕ} 0 1 = cc in omega arith,
       λ out. absurd (out (omega (arith, leb-true m _ e))),
     ))
     (λ e. (λ over h. omega (arith, h, leb-false m _ e), λ out. refl))
 told_over (negsuc m) =
-    either_told (λ (told : Option ℤ). OverExactly told (negsuc m)) (leb (suc m) _)
+    either_told (λ (told : Option Told). OverExactly told (negsuc m)) (leb (suc m) _)
     (λ e. (
       λ over h. let no : ◌≡◌ {A = ℕ} 0 1 = cc in omega arith,
       λ out. absurd (out (omega (arith, leb-true (suc m) _ e))),

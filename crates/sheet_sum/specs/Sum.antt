@@ -1,8 +1,28 @@
 -- Paper 02, request 13: "the exact sum of all D". Assumes nothing.
-use Rattle.std.specs.Prelude.{suc, ◌-◌, ◌^◌, ◌<◌, cond, List, [], ◌∷◌, leb, ℤ, pos, negsuc, ◌+ℤ◌, Option, Some, None}
+use Rattle.std.specs.Prelude.{
+  ℕ,
+  suc,
+  ◌-◌,
+  ◌^◌,
+  ◌<◌,
+  cond,
+  List,
+  [],
+  ◌∷◌,
+  leb,
+  ℤ,
+  pos,
+  negsuc,
+  ◌+ℤ◌,
+  Option,
+  Some,
+  None,
+}
 use Rattle.std.proofs.Math.IntN.{sub_ℕ}
 use Rattle.std.specs.Int.Signed.{mag}
 use Rattle.sheet_sum.specs.declared.Sum.{Sum}
+use Rattle.sheet_sum.specs.declared.Told.{Told}
+use Rattle.sheet_sum.specs.declared.Told.TheVariants.{Plus, Minus}
 use Rattle.sheet_sum.specs.Wide.{more_of}
 
 -- ---- The sum of D, as a reader means it.
@@ -34,6 +54,12 @@ abbrev pub sum_of : Sum → ℤ
 sum_of s = sub_ℕ s.ahead s.behind
 
 -- ---- "A sum outside signed 64 bits prints `over`"; -2^63 is inside.
-abbrev pub told_of : ℤ → Option ℤ
-told_of (pos m) = cond (leb m (2 ^ 63 - 1)) (Some (pos m)) None
-told_of (negsuc m) = cond (leb (suc m) (2 ^ 63)) (Some (negsuc m)) None
+abbrev pub plus_of : ℕ → Option Told
+plus_of m = cond (leb m (2 ^ 63 - 1)) (Some (Plus m)) None
+
+abbrev pub minus_of : ℕ → Option Told
+minus_of m = cond (leb m (2 ^ 63)) (Some (Minus m)) None
+
+abbrev pub told_of : ℤ → Option Told
+told_of (pos m) = plus_of m
+told_of (negsuc m) = minus_of (suc m)

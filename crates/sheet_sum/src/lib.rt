@@ -4,7 +4,7 @@
 
 ghost use Rattle.std.specs.Prelude.{◌≡◌};
 ghost use Rattle.sheet_sum.specs.Wide.{more_of};
-ghost use Rattle.sheet_sum.specs.Sum.{no_sum, sum_with, sum_of, told_of};
+ghost use Rattle.sheet_sum.specs.Sum.{no_sum, sum_with, sum_of, plus_of, minus_of, told_of};
 
 use clock::magnitude;
 
@@ -13,6 +13,13 @@ use clock::magnitude;
 pub struct Sum {
     pub ahead: u128,
     pub behind: u128,
+}
+
+// How far a sum is from 0, and on which side.
+#[derive(Clone, Copy)]
+pub enum Told {
+    Plus(u64),
+    Minus(u64),
 }
 
 impl Sum {
@@ -44,11 +51,36 @@ impl Sum {
     }
 
     // The sum itself, if it is within signed 64 bits.
-    pub fn told(self) -> Option<i64>
+    pub fn told(self) -> Option<Told>
         ensures { result ≡ told_of (sum_of self) }
     {
-        let whole = self.ahead.checked_signed_diff(self.behind)?;
-        i64::try_from(whole).ok()
+        let ahead = self.ahead.saturating_sub(self.behind);
+        let behind = self.behind.saturating_sub(self.ahead);
+        if behind == 0 {
+            plus_told(ahead)
+        } else {
+            minus_told(behind)
+        }
+    }
+}
+
+fn plus_told(m: u128) -> Option<Told>
+    ensures { result ≡ plus_of m }
+{
+    if m <= 0x7FFF_FFFF_FFFF_FFFF {
+        Some(Told::Plus(m as u64))
+    } else {
+        None
+    }
+}
+
+fn minus_told(m: u128) -> Option<Told>
+    ensures { result ≡ minus_of m }
+{
+    if m <= 0x8000_0000_0000_0000 {
+        Some(Told::Minus(m as u64))
+    } else {
+        None
     }
 }
 

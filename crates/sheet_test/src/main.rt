@@ -4,7 +4,7 @@
 
 use refusal::Refusal;
 use sheet_line::put_line;
-use sheet_sum::{Sum, plus};
+use sheet_sum::{Sum, Told, plus};
 use sheet_tally::Tally;
 use slave_answer::Taken;
 use test_line::{number, signed, word};
@@ -118,14 +118,13 @@ fn end(rt: &impl Print, ahead_high: u64, ahead_low: u64, behind_high: u64, behin
     say(rt, whole.told());
 }
 
-fn say(rt: &impl Print, told: Option<i64>) {
+fn say(rt: &impl Print, told: Option<Told>) {
     word(rt, b":");
     match told {
-        Some(sum) => {
-            if sum < 0 {
-                word(rt, b" minus");
-            }
-            number(rt, sum.unsigned_abs());
+        Some(Told::Plus(m)) => number(rt, m),
+        Some(Told::Minus(m)) => {
+            word(rt, b" minus");
+            number(rt, m);
         }
         None => word(rt, b" over"),
     }
@@ -164,5 +163,6 @@ fn line(rt: &impl Print, tally: Tally) {
         at: 0,
     };
     put_line(&mut out, 15, tally);
-    write_out(rt, &out);
+    let end = out.at;
+    write_out(rt, out.bytes, end);
 }

@@ -1,6 +1,6 @@
 -- No two results satisfy the promise of F, as `F_only` for each public function F. A result is the place
--- with the lent bytes, of which every promise here, `Wrote`, says `Puts` of some text: one law, `puts_only`; and
--- `wrote_only`, of `Out` as it is left. No contract cites this file.
+-- with the lent bytes that `Out` is left with, and every promise here is `Wrote` of some text: one law, `wrote_only`,
+-- of which `puts_only` is the part under `Puts`. No contract cites this file.
 -- Assumes nothing.
 use Prim.Native.Nat.{ℕ}
 use mathlib.Core.Path.{sym, ◌∙◌}
@@ -21,31 +21,31 @@ pub wrote_only : (xs : List ℕ) (before : Out) → OnlyOne (λ (r : ℕ × List
 wrote_only xs before x y p q = puts_only xs before.at before.bytes.now x y p.text q.text
 
 pub put_byte_only :
-    (byte : ℕ) (at : ℕ) (before : List ℕ) →
-    OnlyOne (λ (r : ℕ × List ℕ). Puts (byte ∷ []) at before r.0 r.1)
-put_byte_only byte = puts_only (byte ∷ [])
+    (byte : ℕ) (before : Out) →
+    OnlyOne (λ (r : ℕ × List ℕ). Wrote (byte ∷ []) before (left before r))
+put_byte_only byte = wrote_only (byte ∷ [])
 
 pub put_bytes_only :
-    (bytes : List ℕ) (at : ℕ) (before : List ℕ) →
-    OnlyOne (λ (r : ℕ × List ℕ). Puts bytes at before r.0 r.1)
-put_bytes_only bytes = puts_only bytes
+    (bytes : List ℕ) (before : Out) →
+    OnlyOne (λ (r : ℕ × List ℕ). Wrote bytes before (left before r))
+put_bytes_only bytes = wrote_only bytes
 
 pub put_hex_byte_only :
-    (byte : ℕ) (at : ℕ) (before : List ℕ) →
-    OnlyOne (λ (r : ℕ × List ℕ). Puts (hex_byte byte) at before r.0 r.1)
-put_hex_byte_only byte = puts_only (hex_byte byte)
+    (byte : ℕ) (before : Out) →
+    OnlyOne (λ (r : ℕ × List ℕ). Wrote (hex_byte byte) before (left before r))
+put_hex_byte_only byte = wrote_only (hex_byte byte)
 
 pub put_hex_only :
-    (bytes : List ℕ) (at : ℕ) (before : List ℕ) →
-    OnlyOne (λ (r : ℕ × List ℕ). Puts (hex_of bytes) at before r.0 r.1)
-put_hex_only bytes = puts_only (hex_of bytes)
+    (bytes : List ℕ) (before : Out) →
+    OnlyOne (λ (r : ℕ × List ℕ). Wrote (hex_of bytes) before (left before r))
+put_hex_only bytes = wrote_only (hex_of bytes)
 
 pub put_nine_digits_only :
-    (n : ℕ) (at : ℕ) (before : List ℕ) →
-    OnlyOne (λ (r : ℕ × List ℕ). Puts (digits 9 n) at before r.0 r.1)
-put_nine_digits_only n = puts_only (digits 9 n)
+    (n : ℕ) (before : Out) →
+    OnlyOne (λ (r : ℕ × List ℕ). Wrote (digits 9 n) before (left before r))
+put_nine_digits_only n = wrote_only (digits 9 n)
 
 pub put_decimal_only :
-    (n : ℕ) (at : ℕ) (before : List ℕ) →
-    OnlyOne (λ (r : ℕ × List ℕ). Puts (decimal n) at before r.0 r.1)
-put_decimal_only n = puts_only (decimal n)
+    (n : ℕ) (before : Out) →
+    OnlyOne (λ (r : ℕ × List ℕ). Wrote (decimal n) before (left before r))
+put_decimal_only n = wrote_only (decimal n)

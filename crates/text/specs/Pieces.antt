@@ -1,7 +1,6 @@
 -- Buffers between reads and writes. Assumes nothing.
 use Rattle.std.specs.Prelude.{ℕ, ◌+◌, ◌-◌, min, ◌≡◌, cond, List, ltb, length, drop}
 use Rattle.std.proofs.Math.Seq.{paste}
-use Rattle.text.specs.declared.Out.{Out}
 
 -- ---- The bytes from `used` to `held` go to the start of the buffer; those beyond them stay.
 pub record KeptRest (used held : ℕ) (before : List ℕ) (r : ℕ) (after : List ℕ) : Type 0 where
@@ -11,12 +10,6 @@ pub record KeptRest (used held : ℕ) (before : List ℕ) (r : ℕ) (after : Lis
 -- ---- The place for a line: the start of the buffer, once what stands there is written, where there is no room.
 abbrev pub place_for : (at line length : ℕ) → ℕ
 place_for at line length = cond (ltb length at) 0 (cond (ltb (length - at) line) 0 at)
-
--- ---- `Out` has that place, and the buffer and its bytes as they were.
-pub record RoomFor (line : ℕ) (before after : Out) : Type 0 where
-  pub same_buffer : after.bytes.ghost_name ≡ before.bytes.ghost_name
-  pub bytes : after.bytes.now ≡ before.bytes.now
-  pub place : after.at ≡ place_for before.at line (length before.bytes.now)
 
 -- ---- Items are counted from 1, in 64 bits.
 abbrev pub next_item : ℕ → ℕ

@@ -1,8 +1,7 @@
 // Standard input and output in large pieces: a read takes what is there, and lines go out together.
-ghost use Rattle.std.specs.Prelude.{◌≡◌};
-ghost use Rattle.text.specs.Pieces.{KeptRest, RoomFor, next_item};
+ghost use Rattle.std.specs.Prelude.{◌≡◌, length};
+ghost use Rattle.text.specs.Pieces.{KeptRest, place_for, next_item};
 
-use crate::Out;
 use std::io;
 use std::io::Read;
 
@@ -28,20 +27,21 @@ pub fn keep_rest(input: &mut [u8], used: usize, held: usize) -> usize
     end.saturating_sub(used)
 }
 
-// The bytes before the place, all of them where there are fewer. False where they cannot be written.
-pub fn write_out(rt: &impl Print, out: &Out) -> bool {
-    rt.write_all(&out.bytes[..out.at.min(out.bytes.len())])
-        .is_ok()
+// The first `length` bytes, all of them where there are fewer. False where they cannot be written.
+pub fn write_out(rt: &impl Print, out: &[u8], length: usize) -> bool {
+    rt.write_all(&out[..length.min(out.len())]).is_ok()
 }
 
 // The place for a line of at most `line` bytes: what stands in the buffer is written first where there is no
 // room for it.
-pub fn with_room(rt: &impl Print, out: &mut Out, line: usize)
-    ensures { RoomFor line out.old out.new }
+pub fn with_room(rt: &impl Print, out: &[u8], at: usize, line: usize) -> usize
+    ensures { result ≡ place_for at line (length out.now) }
 {
-    if out.bytes.len() < out.at || out.bytes.len() - out.at < line {
-        write_out(rt, out);
-        out.at = 0;
+    if out.len() < at || out.len() - at < line {
+        write_out(rt, out, at);
+        0
+    } else {
+        at
     }
 }
 

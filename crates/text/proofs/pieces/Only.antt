@@ -8,9 +8,7 @@ use lib.ListN.{drop}
 use lib.Seq.{paste}
 use Rattle.promise.specs.Only.{OnlyOne}
 use Rattle.promise.proofs.Laws.{equation_only}
-use Rattle.text.specs.declared.Out.{Out}
-use Rattle.text.specs.Pieces.{KeptRest, RoomFor, next_item}
-use Rattle.text.proofs.Only.{left}
+use Rattle.text.specs.Pieces.{KeptRest, place_for, next_item}
 
 pub keep_rest_only :
     (used held : ℕ) (before : List ℕ) →
@@ -20,10 +18,8 @@ keep_rest_only used held before x y p q =
     let bytes = p.bytes ∙ ap (paste before 0 (drop used before)) count ∙ sym q.bytes in
     λ i. (count i, bytes i)
 
-pub with_room_only :
-    (line : ℕ) (before : Out) →
-    OnlyOne (λ (r : ℕ × List ℕ). RoomFor line before (left before r))
-with_room_only line before x y p q = λ i. ((p.place ∙ sym q.place) i, (p.bytes ∙ sym q.bytes) i)
+pub with_room_only : (at line length : ℕ) → OnlyOne (λ (r : ℕ). r ≡ place_for at line length)
+with_room_only at line length = equation_only (place_for at line length)
 
 pub next_item_only : (item : ℕ) → OnlyOne (λ (r : ℕ). r ≡ next_item item)
 next_item_only item = equation_only (next_item item)

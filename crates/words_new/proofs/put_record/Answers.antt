@@ -16,8 +16,8 @@ halves a b w e =
 
 pub returns : goal.returns
 returns c =
-    let first = c.copy_from_slice.new.self in
-    let second = c.copy_from_slice-2.new.self in
-    halves first second (drop 11 c.args.words.now) (ap length c.copy_from_slice.ensures.after ∙ omega arith)
-    ∙ ap (λ (l : List ℕ). l ++ second) c.copy_from_slice.ensures.after
-    ∙ ap (λ (l : List ℕ). c.args.held ++ l) c.copy_from_slice-2.ensures.after
+    let first = c.put_eleven.new.words in
+    let second = c.put_eleven-2.new.words in
+    halves first second (drop 11 c.args.words.now) (ap length c.put_eleven.ensures ∙ omega arith)
+    ∙ ap (λ (l : List ℕ). l ++ second) c.put_eleven.ensures
+    ∙ ap (λ (l : List ℕ). c.args.held ++ l) c.put_eleven-2.ensures
